@@ -47,13 +47,7 @@ raw-own cs i n k lo hi = ap is_own (changed-there raw cs i n k lo hi)
 -- ---- bytes whose places are counted from one of them on
 
 run-shifted : (i start len k : ℕ) → in_run (start - i) (start + len - i - (start - i)) k ≡ in_run start len (i + k)
-run-shifted i start len k = elim (cases_lt (i + k) start) [
-  | inl before ↦ in_run-before (start - i) (start + len - i - (start - i)) k (omega arith) ∙ sym (in_run-before start len (i + k) before)
-  | inr behind ↦ elim (cases_lt (i + k) (start + len)) [
-    | inl inside ↦ in_run-yes (start - i) (start + len - i - (start - i)) k (omega arith) (omega arith) ∙ sym (in_run-yes start len (i + k) behind inside)
-    | inr past ↦ in_run-behind (start - i) (start + len - i - (start - i)) k (omega arith) ∙ sym (in_run-behind start len (i + k) past)
-  ]
-]
+run-shifted i start len k = grind (arith, cases_lt, in_run-before, in_run-yes, in_run-behind)
 
 pub shifted-at : (i : ℕ) (cs : List Change) (k : ℕ) → kept_at (shifted i cs) k ≡ kept_at cs (i + k)
 unfolding kept_at
@@ -121,46 +115,19 @@ back-none cs i n none = ap (came_back i n) none ∙ ap (λ t. if t then [] else 
 
 -- what they were before makes no difference, either
 pub back-over : (t : Kept) (cs : List Change) (i n k : ℕ) → kept_at (came_back i n (change t i n ∷ cs)) k ≡ kept_at (came_back i n cs) k
-back-over t cs i n k = elim (cases_lt k i) [
-  | inl before ↦ back-before (change t i n ∷ cs) i n k before ∙ changed-before t cs i n k before ∙ sym (back-before cs i n k before)
-  | inr behind ↦ elim (cases_lt k (i + n)) [
-    | inl inside ↦ back-there (change t i n ∷ cs) i n k behind inside ∙ sym (back-there cs i n k behind inside)
-    | inr past ↦ back-behind (change t i n ∷ cs) i n k past ∙ changed-behind t cs i n k past ∙ sym (back-behind cs i n k past)
-  ]
-]
+back-over t cs i n k = grind (arith, cases_lt, back-before, changed-before, back-there, back-behind, changed-behind)
 
 -- a run that is written is the same as a longer one, whose other bytes are here
 pub back-more : (cs : List Change) (i n j m : ℕ) → j ≤ i → i + n ≤ j + m → ((k : ℕ) → j ≤ k → k < j + m → (k < i) ⊎ (i + n ≤ k) → kept_at cs k ≡ here)
     → (k : ℕ) → kept_at (came_back i n cs) k ≡ kept_at (came_back j m cs) k
-back-more cs i n j m from to others k = elim (cases_lt k j) [
-  | inl before ↦ back-before cs i n k (omega arith) ∙ sym (back-before cs j m k before)
-  | inr behind ↦ elim (cases_lt k (j + m)) [
-    | inl inside ↦ elim (cases_lt k i) [
-      | inl first ↦ back-before cs i n k first ∙ others k behind inside (inl first) ∙ sym (back-there cs j m k behind inside)
-      | inr more ↦ elim (cases_lt k (i + n)) [
-        | inl there ↦ back-there cs i n k more there ∙ sym (back-there cs j m k behind inside)
-        | inr last ↦ back-behind cs i n k last ∙ others k behind inside (inr last) ∙ sym (back-there cs j m k behind inside)
-      ]
-    ]
-    | inr past ↦ back-behind cs i n k (omega arith) ∙ sym (back-behind cs j m k past)
-  ]
-]
+back-more cs i n j m from to others k = grind (arith, cases_lt, back-before, back-there, back-behind)
 
 -- bytes that are here are so after a change of others, and after any that are written
 pub here-beside : (t : Kept) (cs : List Change) (i n j m : ℕ) → (j + m ≤ i) ⊎ (i + n ≤ j) → AreBytesHere cs j m → AreBytesHere (change t i n ∷ cs) j m
-here-beside t cs i n j m side were k lo hi = elim side [
-  | inl before ↦ changed-before t cs i n k (omega arith) ∙ were k lo hi
-  | inr behind ↦ changed-behind t cs i n k (omega arith) ∙ were k lo hi
-]
+here-beside t cs i n j m side were k lo hi = grind (arith, changed-before, changed-behind)
 
 pub here-back : (cs : List Change) (i n j m : ℕ) → AreBytesHere cs j m → AreBytesHere (came_back i n cs) j m
-here-back cs i n j m were k lo hi = elim (cases_lt k i) [
-  | inl before ↦ back-before cs i n k before ∙ were k lo hi
-  | inr behind ↦ elim (cases_lt k (i + n)) [
-    | inl inside ↦ back-there cs i n k behind inside
-    | inr past ↦ back-behind cs i n k past ∙ were k lo hi
-  ]
-]
+here-back cs i n j m were k lo hi = grind (arith, cases_lt, back-before, back-there, back-behind)
 
 -- bytes that are here and are written are as they were
 pub back-same : (cs : List Change) (i n : ℕ) → AreBytesHere cs i n → came_back i n cs ≡ cs
@@ -169,13 +136,4 @@ back-same cs i n are = ap (λ t. if t then cs else change here i n ∷ cs) (all-
 -- a run is written, and then the bytes behind it
 pub back-then : (cs now : List Change) (i m n : ℕ) → ((k : ℕ) → kept_at now k ≡ kept_at (came_back i m cs) k)
     → (k : ℕ) → kept_at (came_back (i + m) n now) k ≡ kept_at (came_back i (m + n) cs) k
-back-then cs now i m n first k = elim (cases_lt k (i + m)) [
-  | inl before ↦ back-before now (i + m) n k before ∙ first k ∙ (elim (cases_lt k i) [
-    | inl sooner ↦ back-before cs i m k sooner ∙ sym (back-before cs i (m + n) k sooner)
-    | inr there ↦ back-there cs i m k there before ∙ sym (back-there cs i (m + n) k there (omega (arith, before)))
-  ])
-  | inr behind ↦ elim (cases_lt k (i + m + n)) [
-    | inl inside ↦ back-there now (i + m) n k behind inside ∙ sym (back-there cs i (m + n) k (omega (arith, behind)) (omega (arith, inside)))
-    | inr past ↦ back-behind now (i + m) n k past ∙ first k ∙ back-behind cs i m k behind ∙ sym (back-behind cs i (m + n) k (omega (arith, past)))
-  ]
-]
+back-then cs now i m n first k = grind (arith, cases_lt, back-before, back-there, back-behind)

@@ -5,6 +5,7 @@ pub mod Crosses
 pub mod Dropped
 pub mod Fills
 pub mod Grid
+pub mod OpenOwner
 pub mod OpenedUnits
 pub mod OwnerValues
 pub mod Parts

@@ -1,6 +1,6 @@
 -- The positions of the ones of a number after an operation, at any number.
-use Rattle.std.proofs.Common.{◌≡◌, ℕ, ◌+◌, ◌-◌, ◌/◌, ◌%◌, ◌^◌, ◌<◌, ◌≤◌, true, false, ◌&&◌, ◌||◌, ◌==◌, nat_le, nat_lt, min}
-use Rattle.std.proofs.Common.{bit_and, bit_or, refl, sym, ap, subst, ◌∙◌, arith, inl, inr}
+use Rattle.std.proofs.Common.{◌≡◌, ℕ, ◌+◌, ◌-◌, ◌/◌, ◌%◌, ◌^◌, ◌<◌, ◌≤◌, false, ◌&&◌, ◌||◌, ◌==◌, nat_le, nat_lt, min}
+use Rattle.std.proofs.Common.{bit_and, bit_or, ap, arith}
 use Rattle.std.proofs.lemmas.Bool.{cases_eq, cases_lt, eq-eqb, lt-ltb, ne_eqb}
 use Rattle.std.proofs.lemmas.Bool.Decides.{nat_tests}
 use Rattle.std.proofs.lemmas.Nat.{shr-shr}
@@ -17,10 +17,7 @@ bit-and a b i = grind (arith, nat_tests, bit_at_and a b i, bit_at-lt a i, bit_at
 
 pub bit-pow : (k i : ℕ) → bit (2 ^ k) i ≡ (i == k)
 unfolding bit
-bit-pow k i = elim (cases_eq i k) [
-  | inl same ↦ rw same (ap (λ d. d == 1) (bit_at-pow_same k) ∙ sym (eq-eqb k k refl))
-  | inr apart ↦ ap (λ d. d == 1) (bit_at-pow_other k i apart) ∙ sym (ne_eqb i k apart)
-]
+bit-pow k i = grind (arith, cases_eq, bit_at-pow_same, eq-eqb, bit_at-pow_other, ne_eqb)
 
 -- `n >> k`
 pub bit-shr : (n k i : ℕ) → bit (n / 2 ^ k) i ≡ bit n (k + i)
@@ -30,10 +27,7 @@ bit-shr n k i = ap (λ m. m % 2 == 1) (shr-shr n k i)
 -- the lowest k positions
 pub bit-low_ones : (k i : ℕ) → bit (2 ^ k - 1) i ≡ nat_lt i k
 unfolding bit
-bit-low_ones k i = elim (cases_lt i k) [
-  | inl low ↦ ap (λ d. d == 1) (bit_at_ones k i low) ∙ sym (lt-ltb i k low)
-  | inr high ↦ ap (λ d. d == 1) (bit_at_ones_above k i high) ∙ grind (arith, nat_tests)
-]
+bit-low_ones k i = grind (arith, cases_lt, bit_at_ones, lt-ltb, bit_at_ones_above, nat_tests)
 
 -- a number below 2 ^ width has no one from `width` on
 pub bit-above : (width n i : ℕ) → n < 2 ^ width → width ≤ i → bit n i ≡ false
@@ -47,18 +41,7 @@ same_from_ones a b ones = same_from_bits a b (λ i. let same = ones i in grind (
 
 -- the first one from a position on is there exactly if there is a one at the position
 pub first_one_is_here : (width n i answer : ℕ) → i < width → IsFirstOne width n i answer → (answer == i) ≡ (bit n i && nat_lt i width)
-first_one_is_here width n i answer within first = elim (cases_eq answer i) [
-  | inl here ↦
-      let one : bit n i ≡ true = subst (λ k. bit n k ≡ true) here (first.found (omega (arith, here))).1 in
-      eq-eqb answer i here ∙ grind (arith, nat_tests)
-  | inr apart ↦
-      let behind : i < answer = elim (cases_lt answer width) [
-        | inl below ↦ omega (arith, (first.found below).0, apart)
-        | inr past ↦ omega arith
-      ] in
-      let none : bit n i ≡ false = first.none_before i (omega arith) behind in
-      ne_eqb answer i apart ∙ grind (arith, nat_tests)
-]
+first_one_is_here width n i answer within first = grind (arith, cases_eq, eq-eqb, nat_tests, cases_lt, ne_eqb)
 
 -- the positions of a range whose ends are cut to a width
 pub range_truncated : (start end width v w i a b : ℕ) → v ≡ width → w ≡ width → a ≡ min start v → b ≡ min end w

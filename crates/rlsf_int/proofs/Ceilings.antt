@@ -17,14 +17,7 @@ use mir.ValLaws.{bits-suc, pow-bits, to_z-neg}
 
 -- two multiples that differ are a step apart
 apart : (step x y : ℕ) → x % step ≡ 0 → y % step ≡ 0 → x < y → x + step ≤ y
-apart step x y mx my less =
-    let ex : x / step * step + x % step ≡ x = div-add-mod' x step in
-    let ey : y / step * step + y % step ≡ y = div-add-mod' y step in
-    elim (cases_lt (x / step) (y / step)) [
-      | inl more ↦ let up : (x / step + 1) * step ≤ y / step * step = mul-le (x / step + 1) step (y / step) step (omega arith) (omega arith) in
-          omega (arith, add-mul (x / step) 1 step)
-      | inr less' ↦ let down : y / step * step ≤ x / step * step = mul-le (y / step) step (x / step) step less' (omega arith) in absurd (omega arith)
-    ]
+apart step x y mx my less = grind (arith, div-add-mod', cases_lt, mul-le, add-mul)
 
 apart_z : (step : ℕ) (m a : ℤ) → IsMultiple step m → IsMultiple step a → m <ℤ a → (m +ℤ pos step) ≤ℤ a
 apart_z step (pos x) (pos y) mx my less = let far = apart step x y mx my (omega (arith, ints)) in omega (arith, ints)
@@ -93,10 +86,7 @@ record IsFloor (w : Width) (step : ℕ) (z a : ℤ) : Type 0 where
 -- `(2 ^ k - 1).cast_signed()`, the fraction of a signed value
 module _ (w : Width) (k : ℕ) (fraction : ℤ) (within : k < bits w) (is : fraction ≡ cast_signed w (1 * 2 ^ k % 2 ^ bits w - 1)) where
   half : 2 ^ k ≤ 2 ^ hbits w
-  half = elim (cases_lt k (hbits w)) [
-    | inl less ↦ omega (arith, pow_below k (hbits w) less)
-    | inr top ↦ let same : k ≡ hbits w = omega (arith, bits-suc w) in rw same (omega arith)
-  ]
+  half = grind (arith, cases_lt, pow_below)
 
   fraction_is : fraction ≡ pos (2 ^ k - 1)
   fraction_is = is ∙ ap (λ m. cast_signed w (m - 1)) (one_shl k (bits w) within) ∙ to_z_pos w (2 ^ k - 1) (omega (arith, half, pow_pos k))

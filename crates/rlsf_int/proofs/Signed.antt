@@ -32,7 +32,4 @@ module _ (w : Width) where
   pub clear_signed : (z : ℤ) (n k : ℕ) (r : ℤ) → FitsSigned w z → n < 2 ^ bits w → k < bits w → n ≡ cast_unsigned w (cast_signed w (cast_unsigned w z))
       → r ≡ cast_signed w (bit_and n (2 ^ bits w - 1 - 1 * 2 ^ k % 2 ^ bits w))
       → (i : ℕ) → bit (cast_unsigned w (cast_signed w (cast_unsigned w r))) i ≡ (bit (cast_unsigned w z) i && not (i == k && nat_lt k (bits w)))
-  clear_signed z n k r real fits within old new i =
-      let less = and_le_l n (2 ^ bits w - 1 - 1 * 2 ^ k % 2 ^ bits w) in
-      ap (λ m. bit m i) (kept r _ (omega arith) new) ∙ bit-clear_tested w n k fits within i
-      ∙ ap (λ m. bit m i && not (i == k && nat_lt k (bits w))) (old ∙ ap (cast_unsigned w) (to_z-of_z w z real))
+  clear_signed z n k r real fits within old new i = grind (arith, and_le_l, kept, bit-clear_tested, not, nat_lt, to_z-of_z)

@@ -23,11 +23,7 @@ no_ones start end i same = bit-zero i ∙ grind (arith, nat_tests)
 module _ (w : Width) where
   bit-mask : (start i : ℕ) → start < bits w → i < bits w → bit ((2 ^ bits w - 1) * 2 ^ start % 2 ^ bits w) i ≡ nat_le start i
   unfolding bit
-  bit-mask start i within low =
-      ap (λ m. bit_at m i == 1) (ones_shl (bits w) start (omega arith)) ∙ elim (cases_lt i start) [
-        | inl below ↦ ap (λ d. d == 1) (bit_at_mask_below start (bits w) i below) ∙ grind (arith, nat_tests)
-        | inr above ↦ ap (λ d. d == 1) (bit_at_mask_inside start (bits w) i above low) ∙ grind (arith, nat_tests)
-      ]
+  bit-mask start i within low = grind (arith, ones_shl, cases_lt, bit_at_mask_below, nat_tests, bit_at_mask_inside)
 
   -- `MAX >> (BITS - end)`
   bit-below : (end i : ℕ) → end ≤ bits w → bit ((2 ^ bits w - 1) / 2 ^ (bits w - end)) i ≡ nat_lt i end
@@ -38,12 +34,7 @@ module _ (w : Width) where
   -- `(MAX << start) & (MAX >> (BITS - end))`
   pub ones_between : (start end i : ℕ) → start < end → end ≤ bits w
       → bit (bit_and ((2 ^ bits w - 1) * 2 ^ start % 2 ^ bits w) ((2 ^ bits w - 1) / 2 ^ (bits w - end))) i ≡ (nat_le start i && nat_lt i end)
-  ones_between start end i some within =
-      let high = (2 ^ bits w - 1) * 2 ^ start % 2 ^ bits w in
-      bit-and high _ i ∙ ap (λ t. bit high i && t) (bit-below end i within) ∙ elim (cases_lt i end) [
-        | inl low ↦ ap (λ t. t && nat_lt i end) (bit-mask start i (omega arith) (omega arith))
-        | inr past ↦ grind (arith, nat_tests)
-      ]
+  ones_between start end i some within = grind (arith, bit-and, bit-below, cases_lt, nat_lt, bit-mask, nat_tests)
 
   -- ---- trailing and leading zeros
 
@@ -185,11 +176,7 @@ nothing_past w n start end i fits past =
 -- t is the test of position i of m, which is `n >> start`, cut to the range's length
 pub moved : (n m start end i : ℕ) (t : Bool) → start ≤ end → m ≡ n / 2 ^ start → t ≡ (bit m i && (nat_lt i (end - start) && nat_lt i 32))
     → t ≡ (bit n (start + i) && (nat_lt (start + i) end && nat_lt i 32))
-moved n m start end i t ordered is cut =
-    let place : nat_lt i (end - start) ≡ nat_lt (start + i) end = grind (arith, nat_tests) in
-    cut ∙ ap (λ k. bit k i && (nat_lt i (end - start) && nat_lt i 32)) is
-    ∙ ap (λ s. s && (nat_lt i (end - start) && nat_lt i 32)) (bit-shr n start i)
-    ∙ ap (λ s. bit n (start + i) && (s && nat_lt i 32)) place
+moved n m start end i t ordered is cut = grind (arith, nat_lt, nat_tests, bit-shr)
 
 -- the same where `n >> start` was first cut to 32 positions
 pub moved_low : (n start end i : ℕ) (t : Bool) → start ≤ end → t ≡ (bit (bit_and (n / 2 ^ start) 4294967295) i && (nat_lt i (end - start) && nat_lt i 32))

@@ -1,9 +1,9 @@
 -- What a copy leaves: the bytes there, which are here, and every other word and byte as it was.
-use Rattle.std.proofs.Common.{◌≡◌, ℕ, ◌+◌, ◌-◌, ◌<◌, ◌≤◌, ◌⊎◌, [], length, drop, arith, inl, inr, ap, sym, ◌∙◌, length-drop, length-take}
+use Rattle.std.proofs.Common.{◌≡◌, ℕ, ◌+◌, ◌-◌, ◌<◌, ◌≤◌, ◌⊎◌, [], length, drop, arith, inl, inr, ap, ◌∙◌, length-drop, length-take}
 use Rattle.std.proofs.lemmas.Bool.{cases_lt}
 use Rattle.std.specs.List.{splice}
 use Rattle.rlsf_base.specs.declared.memory.range.Range.{Range}
-use Rattle.rlsf_base.specs.Out.{here, is_own, kept_at}
+use Rattle.rlsf_base.specs.Out.{here, kept_at}
 use Rattle.rlsf_base.specs.Range.{end_of, LiesIn, range_at}
 use Rattle.rlsf_base.specs.Space.{Space, bytes_in, out_at, word_at, word_range, with_bytes}
 use Rattle.rlsf_base.specs.OpenSpace.{IsOwned, SameOwn, StaysHere, out_with}
@@ -36,31 +36,16 @@ module _ (m n : Space) (from : Range) (to : ℕ) (placed : LiesIn from m.start (
       (λ i. kept_at (out i) (k - start i)) ∙ back-there m.out (to - m.start) from.len (k - m.start) (omega (arith, room-there)) (omega (arith, room-there, hi))
 
   pub out_at-copied : (k : ℕ) → m.start ≤ k → (k < to) ⊎ (to + from.len ≤ k) → out_at n k ≡ out_at m k
-  out_at-copied k inside side = (λ i. kept_at (out i) (k - start i)) ∙ elim side [
-    | inl before ↦ back-before m.out (to - m.start) from.len (k - m.start) (omega (arith, room-there, inside))
-    | inr past ↦ back-behind m.out (to - m.start) from.len (k - m.start) (omega (arith, room-there, inside))
-  ]
+  out_at-copied k inside side = grind (arith, back-before, back-behind)
 
   pub none-copied : m.out ≡ [] → n.out ≡ []
   none-copied = none-with m n there out
 
   pub is_own-copied : IsOwned m there → SameOwn m n
-  is_own-copied own k inside = elim (cases_lt k to) [
-    | inl before ↦ ap is_own (out_at-copied k inside (inl before))
-    | inr behind ↦ elim (cases_lt k (to + from.len)) [
-      | inl within ↦ ap is_own (out_at-there k behind within) ∙ sym (own k behind within)
-      | inr past ↦ ap is_own (out_at-copied k inside (inr past))
-    ]
-  ]
+  is_own-copied own k inside = grind (arith, cases_lt, out_at-copied, out_at-there)
 
   pub here-copied : StaysHere m n
-  here-copied k inside was = elim (cases_lt k to) [
-    | inl before ↦ out_at-copied k inside (inl before) ∙ was
-    | inr behind ↦ elim (cases_lt k (to + from.len)) [
-      | inl within ↦ out_at-there k behind within
-      | inr past ↦ out_at-copied k inside (inr past) ∙ was
-    ]
-  ]
+  here-copied k inside was = grind (arith, cases_lt, out_at-copied, out_at-there)
 
   pub word_at-with_bytes : (a : ℕ) → m.start ≤ a → (a + 8 ≤ to) ⊎ (to + from.len ≤ a) → word_at n a ≡ word_at m a
   word_at-with_bytes a inside side =

@@ -1,5 +1,5 @@
 -- What is left through a lent range, whatever that is: the bytes there, and every other byte as it was.
-use Rattle.std.proofs.Common.{◌≡◌, ℕ, ◌-◌, ◌≤◌, ◌⊎◌, List, ◌++◌, length, drop, arith, refl, ◌∙◌, length-append, length-drop, length-take, take_at}
+use Rattle.std.proofs.Common.{◌≡◌, ℕ, ◌-◌, ◌≤◌, ◌⊎◌, List, length, drop, arith, refl, ◌∙◌, length-append, length-drop, length-take, take_at}
 use Rattle.std.specs.List.{refill}
 use Rattle.rlsf_base.specs.declared.memory.range.Range.{Range}
 use Rattle.rlsf_base.specs.Range.{end_of, LiesIn}
@@ -15,15 +15,7 @@ module _ (m : Space) (p : Range) (w : List ℕ) (placed : LiesIn p m.start (leng
   left = lent_space m p.start p.len w
 
   filled : length (refill p.len old w) ≡ p.len
-  filled =
-      omega (
-        arith,
-        placed,
-        length-take p.len (w ++ drop (length w) old),
-        length-append w (drop (length w) old),
-        length-drop (length w) old,
-        length-drop (p.start - m.start) m.bytes,
-      )
+  filled = grind (arith, length-take, old, length-append, length-drop)
 
   pub length-lent_space : length left.bytes ≡ length m.bytes
   length-lent_space = length-with m left p (refill p.len old w) placed filled refl refl

@@ -37,10 +37,7 @@ module _ {base : Base} {shift len_and_skip : ℕ} {bytes : Bytes} {supplier : Su
     placed = omega (arith, fits, start, long, shifts, lies, place, is.lies.1, is.bounds, is.whole)
 
     within : Has bytes at range.len
-    within = (
-      omega (arith, fits, start, long, shifts, lies, place, is.lies.1, is.bounds, is.whole),
-      omega (arith, fits, start, long, shifts, lies, place, is.lies.1, is.bounds, is.whole),
-    )
+    within = grind (arith, start, long, shifts)
 
     pub can_lend : IsHere now range → (view.base.ptr ≡ bytes.at) × HasHere bytes at range.len
     can_lend here = (

@@ -1,5 +1,5 @@
 -- Bytes that were lent as a whole: there are as many as before, and they are those that were left.
-use Rattle.std.proofs.Common.{◌≡◌, ℕ, List, ◌++◌, length, take, drop, arith, sym, ap, ◌∙◌, length-append, length-drop, length-take}
+use Rattle.std.proofs.Common.{◌≡◌, ℕ, List, ◌++◌, length, drop, arith, length-append, length-drop, length-take}
 use Rattle.std.proofs.Math.Seq.{take-append_seam, take-length}
 use Rattle.std.specs.List.{refill}
 use Rattle.rlsf_base.specs.Lends.{refilled}
@@ -15,10 +15,7 @@ module _ (old w : List ℕ) where
   refilled-long = length-splice old (refill (length old) old w) 0 (length old) (omega arith) whole
 
   pub refilled-left : length w ≡ length old → refilled old 0 (length old) w ≡ w
-  refilled-left long =
-      sym (take-length (refilled old 0 (length old) w)) ∙ ap (λ n. take n (refilled old 0 (length old) w)) refilled-long
-      ∙ splice-inside old (refill (length old) old w) 0 (length old) (omega arith) whole
-      ∙ ap (λ n. take n (w ++ drop (length w) old)) (sym long) ∙ take-append_seam w (drop (length w) old)
+  refilled-left long = grind (arith, take-length, refilled-long, splice-inside, whole, take-append_seam)
 
   pub refilled-here : (cs : List Change) → AreBytesHere cs 0 (length old) → AreBytesHere cs 0 (length (refilled old 0 (length old) w))
   refilled-here cs here k lo hi = here k lo (omega (arith, hi, refilled-long))

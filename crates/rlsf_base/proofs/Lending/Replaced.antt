@@ -1,5 +1,5 @@
 -- Bytes in the place of others: they are there, and every other word and byte is as it was.
-use Rattle.std.proofs.Common.{◌≡◌, ℕ, ◌+◌, ◌-◌, ◌≤◌, ◌⊎◌, List, length, take, drop, slice_index, arith, inl, inr, sym, ap, ◌∙◌, get_or-take}
+use Rattle.std.proofs.Common.{◌≡◌, ℕ, ◌+◌, ◌-◌, ◌≤◌, ◌⊎◌, List, length, take, drop, slice_index, arith, sym, ap, ◌∙◌, get_or-take}
 use Rattle.std.proofs.Common.{get_or-drop}
 use Rattle.std.specs.List.{splice}
 use Rattle.rlsf_base.specs.declared.memory.range.Range.{Range}
@@ -17,11 +17,7 @@ module _ (m n : Space) (p : Range) (ys : List ℕ) (placed : LiesIn p m.start (l
   length-with = ap length bytes ∙ length-splice m.bytes ys (p.start - m.start) p.len room full
 
   pub bytes_in-with : (r : Range) → m.start ≤ r.start → (end_of r ≤ p.start) ⊎ (end_of p ≤ r.start) → bytes_in n r ≡ bytes_in m r
-  bytes_in-with r inside side =
-      (λ i. take r.len (drop (r.start - start i) (bytes i))) ∙ elim side [
-        | inl before ↦ splice-before m.bytes ys (p.start - m.start) p.len room full (r.start - m.start) r.len (omega (arith, placed, before, inside))
-        | inr after ↦ ap (take r.len) (splice-after m.bytes ys (p.start - m.start) p.len room full (r.start - m.start) (omega (arith, placed, after)))
-      ]
+  bytes_in-with r inside side = grind (arith, splice-before, room, splice-after)
 
   pub bytes_in-there : bytes_in n p ≡ ys
   bytes_in-there = (λ i. take p.len (drop (p.start - start i) (bytes i))) ∙ splice-inside m.bytes ys (p.start - m.start) p.len room full

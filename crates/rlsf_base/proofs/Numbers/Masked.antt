@@ -1,5 +1,5 @@
 -- Rounding up to a multiple of a power of two, by a mask.
-use Rattle.std.proofs.Common.{◌≡◌, ℕ, ◌+◌, ◌-◌, ◌*◌, ◌/◌, ◌^◌, ◌<◌, ◌≤◌, bit_and, arith, sym, ◌∙◌, ap, subst}
+use Rattle.std.proofs.Common.{◌≡◌, ℕ, ◌+◌, ◌-◌, ◌*◌, ◌/◌, ◌^◌, ◌<◌, ◌≤◌, bit_and, arith, sym, ◌∙◌, ap}
 use Rattle.std.specs.Int.{next_multiple_of}
 use Rattle.std.proofs.Math.Nat.{div-add-mod', div-mul-le_self, lt-div-mul-add, lt_of_mul-lt-mul_right, mul-le-mul_right}
 use Rattle.std.proofs.lemmas.Nat.{pow_pos}
@@ -36,13 +36,7 @@ exponent align power fits = pow-between align (floor_log2 align) 63 (omega (arit
 
 module _ (n align : ℕ) (power : IsPowerOfTwo align) (word : align < 2 ^ 64) where
   pub align_up-fits : next_multiple_of n align < 2 ^ 64 → n + (align - 1) < 2 ^ 64
-  align_up-fits fits =
-      let k = floor_log2 align in
-      let sum = sum_fits n k (exponent align power word) (subst (λ a. next_multiple_of n a < 2 ^ 64) power fits) in
-      subst (λ a. n + (a - 1) < 2 ^ 64) (sym power) sum
+  align_up-fits fits = grind (arith, sum_fits, exponent)
 
   pub align_up-masked : n + (align - 1) < 2 ^ 64 → bit_and (n + (align - 1)) (2 ^ 64 - 1 - (align - 1)) ≡ next_multiple_of n align
-  align_up-masked fits =
-      let k = floor_log2 align in
-      let by_power = masked n k (exponent align power word) (subst (λ a. n + (a - 1) < 2 ^ 64) power fits) in
-      subst (λ a. bit_and (n + (a - 1)) (2 ^ 64 - 1 - (a - 1)) ≡ next_multiple_of n a) (sym power) by_power
+  align_up-masked fits = grind (arith, masked, exponent, bit_and)

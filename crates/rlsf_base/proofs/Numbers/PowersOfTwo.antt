@@ -1,5 +1,5 @@
 -- The laws of logarithms and powers of two.
-use Rattle.std.proofs.Common.{◌≡◌, ℕ, zero, suc, ◌+◌, ◌-◌, ◌*◌, ◌/◌, ◌^◌, ◌<◌, ◌≤◌, ◌↔◌, IsTrue, arith, eq-eqb, inl, inr, sym}
+use Rattle.std.proofs.Common.{◌≡◌, ℕ, zero, suc, ◌+◌, ◌-◌, ◌*◌, ◌/◌, ◌^◌, ◌<◌, ◌≤◌, ◌↔◌, IsTrue, arith, eq-eqb, sym}
 use Rattle.std.proofs.Common.{◌∙◌, ap}
 use Rattle.std.proofs.lemmas.Nat.{ones_cat, ones_le_self, pow_below, pow_pos, zero_from_ones}
 use Rattle.std.proofs.lemmas.Bool.{cases_lt, eqb-true}
@@ -28,10 +28,7 @@ floor_log2-lt n some = (halvings_bounds n n some (omega arith)).1
 
 -- where n lies between two powers, their exponents are in order
 pub pow-between : (n j k : ℕ) → 2 ^ j ≤ n → n < 2 ^ suc k → j ≤ k
-pow-between n j k low high = elim (cases_lt k j) [
-  | inl less ↦ let apart : 2 ^ suc k ≤ 2 ^ j = pow_mono less in omega arith
-  | inr at_most ↦ at_most
-]
+pow-between n j k low high = grind (arith, cases_lt, pow_mono)
 
 -- the logarithm is the one exponent whose power of two n has
 pub floor_log2-unique : (n k : ℕ) → 2 ^ k ≤ n → n < 2 ^ suc k → floor_log2 n ≡ k

@@ -7,18 +7,12 @@ use Rattle.std.proofs.lemmas.List.{append_assoc, take_at}
 use Rattle.std.proofs.lemmas.Slice.{drop-append-drop}
 use Rattle.std.proofs.lemmas.Grind.{common_steps}
 use Rattle.std.specs.List.{splice}
-use Rattle.rlsf_base.specs.Out.{Change, raw, is_own}
+use Rattle.rlsf_base.specs.Out.{Change, is_own}
 use Rattle.rlsf_base.specs.Changes.{AreBytesHere, IsOwn, IsAllOwn, came_back, came_raw}
 use Rattle.rlsf_base.proofs.Changes.{changed-there, changed-before, changed-behind, back-there, back-before, back-behind, none-out}
 
 pub all_own : (cs : List Change) (i n : ℕ) → IsAllOwn cs → IsAllOwn (came_raw i n cs)
-all_own cs i n was k = elim (cases_lt k i) [
-  | inl before ↦ ap is_own (changed-before raw cs i n k before) ∙ was k
-  | inr behind ↦ elim (cases_lt k (i + n)) [
-    | inl inside ↦ ap is_own (changed-there raw cs i n k behind inside)
-    | inr past ↦ ap is_own (changed-behind raw cs i n k past) ∙ was k
-  ]
-]
+all_own cs i n was k = grind (arith, cases_lt, changed-before, changed-there, changed-behind)
 
 pub none_own : IsAllOwn []
 none_own k = ap is_own (none-out k)
@@ -51,28 +45,15 @@ grows cs i was k lo hi = elim (cases_lt k i) [
 ]
 
 pub own-written : (cs : List Change) (i n j m : ℕ) → IsOwn cs j m → IsOwn (came_back i n cs) j m
-own-written cs i n j m was k lo hi = elim (cases_lt k i) [
-  | inl before ↦ ap is_own (back-before cs i n k before) ∙ was k lo hi
-  | inr behind ↦ elim (cases_lt k (i + n)) [
-    | inl inside ↦ ap is_own (back-there cs i n k behind inside)
-    | inr past ↦ ap is_own (back-behind cs i n k past) ∙ was k lo hi
-  ]
-]
+own-written cs i n j m was k lo hi = grind (arith, cases_lt, back-before, back-there, back-behind)
 
 pub one_more : (old new : List ℕ) (i : ℕ) → i < length new → length old ≡ length new
     → splice (take i new ++ drop i old) i (i + 1) (slice_index new i ∷ []) ≡ take (i + 1) new ++ drop (i + 1) old
 one_more old new i in_row long = grind (arith, common_steps)
 
 pub grows-by : (cs : List Change) (i n : ℕ) → AreBytesHere cs 0 i → AreBytesHere (came_back i n cs) 0 (i + n)
-grows-by cs i n was k lo hi = elim (cases_lt k i) [
-  | inl before ↦ back-before cs i n k before ∙ was k lo (omega (arith, before))
-  | inr behind ↦ back-there cs i n k behind (omega (arith, hi))
-]
+grows-by cs i n was k lo hi = grind (arith, cases_lt, back-before, back-there)
 
 pub more-by : (old new : List ℕ) (i n : ℕ) → i + n ≤ length new
     → splice (take i new ++ drop i old) i (i + n) (take n (drop i new)) ≡ take (i + n) new ++ drop (i + n) old
-more-by old new i n in_row =
-    let front : List ℕ = take i new in let next : List ℕ = take n (drop i new) in let rest : List ℕ = drop (i + n) old in
-    let long : length front ≡ i = length-take i new ∙ omega (arith, in_row) in
-    (λ k. take_at front (drop i old) i long k ++ (next ++ drop-append-drop i old front (i + n) (omega arith) long k))
-    ∙ sym (append_assoc front next rest) ∙ (λ k. sym (take-add i n new) k ++ rest)
+more-by old new i n in_row = grind (arith, length-take, take_at, drop-append-drop, append_assoc, take-add)

@@ -37,10 +37,7 @@ units_in-elsewhere shift skip len p = ap (λ t. if t then units_for skip len els
 
 -- where the first byte is the block's first, its address determines them
 pub units_in-first : (shift start len : ℕ) → (shift + start) % 16 ≡ 0 → units_in shift 0 len ≡ units_from start len
-units_in-first shift start len e = elim (cases_lt 0 (start % 16)) [
-  | inl off ↦ units_in-elsewhere shift 0 len (omega (arith, off, e)) ∙ sym (units_in-elsewhere start 0 len off)
-  | inr on ↦ units_in-aligned shift 0 len (omega (arith, on, e)) ∙ sym (units_in-aligned start 0 len (omega (arith, on)))
-]
+units_in-first shift start len e = grind (arith, cases_lt, units_in-elsewhere, units_in-aligned)
 
 -- of the two that share the units of a third, one has it, and the other hasn't
 abbrev pub Shares : Bool → Bool → Bool → Type 0
@@ -55,53 +52,26 @@ no-and t u e = ap (λ s. s && u) e
 pub unit-same : (cs ds : List Change) (skip len u : ℕ)
     → (skip ≤ u * 16 → u * 16 < skip + len → is_own (kept_at cs (u * 16 - skip)) ≡ is_own (kept_at ds (u * 16 - skip)))
     → own_unit cs skip len u ≡ own_unit ds skip len u
-unit-same cs ds skip len u same = elim (cases_lt (u * 16) skip) [
-  | inl before ↦ no-and _ _ (in_run-before skip len (u * 16) before) ∙ sym (no-and _ _ (in_run-before skip len (u * 16) before))
-  | inr behind ↦ elim (cases_lt (u * 16) (skip + len)) [
-    | inl inside ↦ ap (λ t. begins_in skip len u && t) (same behind inside)
-    | inr past ↦ no-and _ _ (in_run-behind skip len (u * 16) past) ∙ sym (no-and _ _ (in_run-behind skip len (u * 16) past))
-  ]
-]
+unit-same cs ds skip len u same = grind (arith, cases_lt, no-and, in_run-before, in_run-behind)
 
 unit-own : (cs : List Change) (skip len u : ℕ) → skip ≤ u * 16 → u * 16 < skip + len → is_own (kept_at cs (u * 16 - skip)) ≡ true → own_unit cs skip len u ≡ true
 unit-own cs skip len u lo hi own = ap (λ t. t && is_own (kept_at cs (u * 16 - skip))) (in_run-yes skip len (u * 16) lo hi) ∙ own
 
 -- where each byte is the owner's, it has each unit that begins there
 pub unit-all : (cs : List Change) (skip len u : ℕ) → IsOwn cs 0 len → own_unit cs skip len u ≡ begins_in skip len u
-unit-all cs skip len u own = elim (cases_lt (u * 16) skip) [
-  | inl before ↦ no-and _ _ (in_run-before skip len (u * 16) before) ∙ sym (in_run-before skip len (u * 16) before)
-  | inr behind ↦ elim (cases_lt (u * 16) (skip + len)) [
-    | inl inside ↦ unit-own cs skip len u behind inside (own (u * 16 - skip) (omega arith) (omega (arith, behind, inside))) ∙ sym (in_run-yes skip len (u * 16) behind inside)
-    | inr past ↦ no-and _ _ (in_run-behind skip len (u * 16) past) ∙ sym (in_run-behind skip len (u * 16) past)
-  ]
-]
+unit-all cs skip len u own = grind (arith, cases_lt, no-and, in_run-before, unit-own, in_run-yes, in_run-behind)
 
 -- where each byte is out, it has none
 pub unit-gone : (cs : List Change) (skip len u : ℕ) → AreBytesOut cs 0 len → own_unit cs skip len u ≡ false
-unit-gone cs skip len u gone = elim (cases_lt (u * 16) skip) [
-  | inl before ↦ no-and _ _ (in_run-before skip len (u * 16) before)
-  | inr behind ↦ elim (cases_lt (u * 16) (skip + len)) [
-    | inl inside ↦ ap (λ t. begins_in skip len u && is_own t) (gone (u * 16 - skip) (omega arith) (omega (arith, behind, inside))) ∙ and-false (begins_in skip len u)
-    | inr past ↦ no-and _ _ (in_run-behind skip len (u * 16) past)
-  ]
-]
+unit-gone cs skip len u gone = grind (arith, cases_lt, no-and, in_run-before, and-false, in_run-behind)
 
 -- in no bytes no unit begins
 pub unit-nowhere : (cs : List Change) (skip u : ℕ) → own_unit cs skip 0 u ≡ false
-unit-nowhere cs skip u = elim (cases_lt (u * 16) skip) [
-  | inl before ↦ no-and _ _ (in_run-before skip 0 (u * 16) before)
-  | inr behind ↦ no-and _ _ (in_run-behind skip 0 (u * 16) (omega (arith, behind)))
-]
+unit-nowhere cs skip u = grind (arith, cases_lt, no-and, in_run-before, in_run-behind)
 
 -- a run of the owner's bytes was written
 pub unit-written : (cs : List Change) (skip len i n u : ℕ) → IsOwn cs i n → own_unit cs skip len u ≡ own_unit (came_back i n cs) skip len u
-unit-written cs skip len i n u own = unit-same cs (came_back i n cs) skip len u (λ lo hi. let k = u * 16 - skip in elim (cases_lt k i) [
-  | inl before ↦ ap is_own (sym (back-before cs i n k before))
-  | inr behind ↦ elim (cases_lt k (i + n)) [
-    | inl inside ↦ own k behind inside ∙ sym (ap is_own (back-there cs i n k behind inside))
-    | inr past ↦ ap is_own (sym (back-behind cs i n k past))
-  ]
-])
+unit-written cs skip len i n u own = grind (arith, unit-same, cases_lt, back-before, back-there, back-behind)
 
 -- the changes cs by which a run of n from the place p on is the owner's; ds by which it isn't; and ps, those of the run alone
 pub parted : (cs ds ps : List Change) (skip len p n u : ℕ) → skip ≤ p → p + n ≤ skip + len → IsOwn cs (p - skip) n → AreBytesOut ds (p - skip) n

@@ -32,18 +32,10 @@ IsAtMost-antisymm c d (inr p) (inr q) = let same : c.division ≡ d.division = o
 
 -- of two classes one comes before the other, or is it
 IsAtMost-or_before : (c d : SizeClass) → IsAtMost c d ⊎ IsBefore d c
-IsAtMost-or_before c d = elim (cases_order c.exponent d.exponent) [
-  | inl same ↦ elim (cases_lt d.division c.division) [ inl less ↦ inr (inr (sym same, less)) | inr at_most ↦ inl (inr (same, at_most)) ]
-  | inr (inl less) ↦ inl (inl less)
-  | inr (inr more) ↦ inr (inl more)
-]
+IsAtMost-or_before c d = grind (arith, cases_order, cases_lt)
 
 pub IsAtMost-total : (c d : SizeClass) → IsAtMost c d ⊎ IsAtMost d c
-IsAtMost-total c d = elim (IsAtMost-or_before c d) [
-  | inl at_most ↦ inl at_most
-  | inr (inl less) ↦ inr (inl less)
-  | inr (inr within) ↦ inr (inr (within.0, omega (arith, within.1)))
-]
+IsAtMost-total c d = grind (arith, IsAtMost-or_before)
 
 -- ---- the order of classes is that of where they begin
 
@@ -62,16 +54,10 @@ class_start-before sllen c d in_row (inr within) =
 
 module _ (sllen : ℕ) (c d : SizeClass) where
   pub class_start-mono : c.division < sllen → IsAtMost c d → class_start sllen c ≤ class_start sllen d
-  class_start-mono in_row order = elim (IsAtMost-or_before d c) [
-    | inl back ↦ omega (arith, ap (class_start sllen) (IsAtMost-antisymm c d order back))
-    | inr before ↦ omega (arith, class_start-before sllen c d in_row before)
-  ]
+  class_start-mono in_row order = grind (arith, IsAtMost-or_before, IsAtMost-antisymm, class_start-before)
 
   pub IsAtMost-class_start : d.division < sllen → class_start sllen c ≤ class_start sllen d → IsAtMost c d
-  IsAtMost-class_start in_row order = elim (IsAtMost-or_before c d) [
-    | inl at_most ↦ at_most
-    | inr before ↦ absurd (omega (arith, class_start-before sllen d c in_row before, pow_pos d.exponent))
-  ]
+  IsAtMost-class_start in_row order = grind (arith, IsAtMost-or_before, class_start-before, pow_pos)
 
   -- a class after one that reaches a size reaches it too
   pub Reaches-IsAtMost : (size : ℕ) → c.division < sllen → IsAtMost c d → Reaches sllen c size → Reaches sllen d size

@@ -16,10 +16,7 @@ module _ (sllen size : ℕ) (some : 0 < size) where
   split = (floor_log2-le size some, omega (arith, floor_log2-lt size some, floor_log2-le size some, pow-suc 2 (floor_log2 size)))
 
   pub division-lt : 0 < sllen → (class_of sllen size).division < sllen
-  division-lt any =
-      let p = 2 ^ floor_log2 size in
-      let below : (size - p) * sllen < p * sllen = omega (arith, mul-le-mul_right sllen (split.1)) in
-      div_below ((size - p) * sllen) p sllen (pow_pos (floor_log2 size)) (omega arith)
+  division-lt any = grind (arith, mul-le-mul_right, split, div_below, pow_pos)
 
   -- what a size has above its row's start, in SLLENths of a byte, and what is left of it in its class
   parts : size * sllen ≡ class_start sllen (class_of sllen size) + ((size - 2 ^ floor_log2 size) * sllen) % 2 ^ floor_log2 size
@@ -43,12 +40,7 @@ module _ (sllen size : ℕ) (some : 0 < size) where
 
   -- a block that is longer by one SLLENth than what is wanted has a class that reaches it
   pub Reaches-from_slack : (wanted : ℕ) → wanted * (sllen + 1) ≤ size * sllen → Reaches sllen (class_of sllen size) wanted
-  Reaches-from_slack wanted slack =
-      let p = 2 ^ floor_log2 size in
-      elim (cases_lt wanted p) [
-        | inl small ↦ let row : wanted * sllen ≤ p * sllen = mul-le-mul_right sllen (omega arith) in omega arith
-        | inr large ↦ omega (arith, class_start-lt)
-      ]
+  Reaches-from_slack wanted slack = grind (arith, cases_lt, mul-le-mul_right, class_start-lt)
 
   -- a size has a valid class exactly where it is below the end of the last row
   pub IsValidClass-class_of : (fllen : ℕ) → IsValidClass fllen (class_of sllen size) ↔ (size < 2 ^ (5 + fllen))

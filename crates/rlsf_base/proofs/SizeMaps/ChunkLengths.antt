@@ -1,5 +1,5 @@
 -- Lengths of chunks that are computed for many payloads.
-use Rattle.std.proofs.Common.{◌≡◌, ℕ, ◌+◌, ◌-◌, ◌*◌, ◌^◌, ◌<◌, ◌≤◌, Option, Some, None, IsTrue, arith, cond, leb, inl, inr}
+use Rattle.std.proofs.Common.{◌≡◌, ℕ, ◌+◌, ◌-◌, ◌*◌, ◌^◌, ◌<◌, ◌≤◌, Option, Some, None, IsTrue, arith, cond, leb}
 use Rattle.std.proofs.Common.{refl, sym, ◌∙◌, ap, subst}
 use Rattle.std.specs.Option.{option_and_then, option_map}
 use Rattle.std.proofs.lemmas.Bool.{cases_lt, cond-true, cond-false, le-leb, lt-ltb, lt-leb, le-ltb}
@@ -65,25 +65,11 @@ object_length-enough fllen sllen size len row told =
 -- ---- what a length that was computed says
 
 pub chunk_length-is : (fllen n len : ℕ) → chunk_length fllen n ≡ Some len → n ≡ len
-chunk_length-is fllen n len told = elim (cases_lt n (2 ^ 64)) [
-  | inl word ↦ elim (cases_lt (2 ^ (5 + fllen)) n) [
-    | inl long ↦ absurd (none-some len
-        (sym (cond-true _ (cond (leb n (2 ^ (5 + fllen))) (Some n) None) None (lt-ltb n (2 ^ 64) word) ∙ cond-false _ (Some n) None (lt-leb n (2 ^ (5 + fllen)) long)) ∙ told))
-    | inr short ↦ same_Some n len (chunk_length-some fllen n word short ∙ told)
-  ]
-  | inr past ↦ absurd (none-some len (chunk_length-past fllen n past ∙ told))
-]
+chunk_length-is fllen n len told = grind (arith, cases_lt, none-some, cond-true, leb, lt-ltb, cond-false, lt-leb, same_Some, chunk_length-some, chunk_length-past)
 
 -- and is not longer than the longest chunk
 chunk_length-short : (fllen n len : ℕ) → chunk_length fllen n ≡ Some len → n ≤ 2 ^ (5 + fllen)
-chunk_length-short fllen n len told = elim (cases_lt n (2 ^ 64)) [
-  | inl word ↦ elim (cases_lt (2 ^ (5 + fllen)) n) [
-    | inl long ↦ absurd (none-some len
-        (sym (cond-true _ (cond (leb n (2 ^ (5 + fllen))) (Some n) None) None (lt-ltb n (2 ^ 64) word) ∙ cond-false _ (Some n) None (lt-leb n (2 ^ (5 + fllen)) long)) ∙ told))
-    | inr short ↦ short
-  ]
-  | inr past ↦ absurd (none-some len (chunk_length-past fllen n past ∙ told))
-]
+chunk_length-short fllen n len told = grind (arith, cases_lt, none-some, cond-true, leb, lt-ltb, cond-false, lt-leb, chunk_length-past)
 
 -- the least size of the class that is taken for a size is taken for it
 pub least_is_taken : (fllen sllen size least : ℕ) → IsTrue (is_row_length sllen) → IsSize size → map_ceil_and_unmap fllen sllen size ≡ Some least

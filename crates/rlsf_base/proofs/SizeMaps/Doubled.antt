@@ -1,5 +1,5 @@
 -- The class of a block, from the highest one of twice its size and one.
-use Rattle.std.proofs.Common.{◌≡◌, ℕ, suc, ◌+◌, ◌-◌, ◌*◌, ◌/◌, ◌^◌, ◌<◌, ◌≤◌, Bool, ◌||◌, IsTrue, arith, inl, inr, sym, subst, ◌∙◌, ap}
+use Rattle.std.proofs.Common.{◌≡◌, ℕ, suc, ◌+◌, ◌-◌, ◌*◌, ◌/◌, ◌^◌, ◌<◌, ◌≤◌, Bool, ◌||◌, IsTrue, arith, sym, subst, ◌∙◌, ap}
 use Rattle.std.specs.Prelude.{◌==◌}
 use Rattle.std.proofs.lemmas.Bool.{eqb-true, or_cases}
 use Rattle.std.proofs.Math.Nat.{div-div-eq-div-mul, mul-div-mul_right, pow-suc}
@@ -16,10 +16,7 @@ pub record IsScaled (n : ℕ) : Type 0 where
   pub divisor : n < 32 → 0 < 32 / n
 
 or_at : (n m : ℕ) (rest : Bool) → (IsTrue rest → IsScaled n) → IsScaled m → IsTrue (rest || n == m) → IsScaled n
-or_at n m rest others is told = elim (or_cases rest (n == m) told) [
-  | inl other ↦ others other
-  | inr same ↦ subst IsScaled (sym (eqb-true n m same)) is
-]
+or_at n m rest others is told = grind (arith, or_cases, eqb-true)
 
 pub IsScaled-row_length : (n : ℕ) → IsTrue (is_row_length n) → IsScaled n
 IsScaled-row_length n =

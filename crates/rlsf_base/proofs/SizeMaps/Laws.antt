@@ -77,17 +77,7 @@ pub record IsUnmapped (fllen sllen size n : ℕ) : Type 0 where
   pub start : IsStart sllen size n
 
 from_conds : (a b : ℕ) (c d x n : ℕ) → cond (ltb a b) (cond (ltb c d) (Some x) None) None ≡ Some n → (a < b) × (c < d) × (x ≡ n)
-from_conds a b c d x n is = elim (cases_lt a b) [
-  | inl first ↦ elim (cases_lt c d) [
-    | inl second ↦ (
-      first,
-      second,
-      same_Some x n (sym (cond-true _ (Some x) None (lt-ltb c d second)) ∙ sym (cond-true _ (cond (ltb c d) (Some x) None) None (lt-ltb a b first)) ∙ is),
-    )
-    | inr past ↦ absurd (none-some n (sym (cond-false _ (Some x) None (le-ltb c d past)) ∙ sym (cond-true _ (cond (ltb c d) (Some x) None) None (lt-ltb a b first)) ∙ is))
-  ]
-  | inr past ↦ absurd (none-some n (sym (cond-false _ (cond (ltb c d) (Some x) None) None (le-ltb a b past)) ∙ is))
-]
+from_conds a b c d x n is = grind (arith, cases_lt, same_Some, cond-true, lt-ltb, ltb, none-some, cond-false, le-ltb)
 
 pub IsUnmapped-some : (fllen sllen size n : ℕ) → IsTrue (is_row_length sllen) → IsSize size → map_ceil_and_unmap fllen sllen size ≡ Some n
     → IsUnmapped fllen sllen size n
@@ -150,12 +140,7 @@ unmapped_begins_its_class fl_bits sl_bits fllen sllen size m valid is told =
     (ap (valid_indices fllen) (sym itself), ap (valid_indices fllen) own)
 
 pub unreached_is_not_unmapped : UnreachedIsNotUnmapped
-unreached_is_not_unmapped fl_bits sl_bits fllen sllen size valid is told =
-    let c = reaching_class sllen size in
-    elim (cases_lt c.exponent (5 + fllen)) [
-      | inl before ↦ absurd (none-some _ (sym told ∙ cond-true _ (Some (c.exponent - 5, c.division)) None (lt-ltb c.exponent (5 + fllen) before)))
-      | inr past ↦ cond-false _ (cond (ltb c.exponent 64) (Some (least_size sllen c)) None) None (le-ltb c.exponent (5 + fllen) past)
-    ]
+unreached_is_not_unmapped fl_bits sl_bits fllen sllen size valid is told = grind (arith, cases_lt, none-some, cond-true, lt-ltb, cond-false, ltb, le-ltb)
 
 pub longest_block_has_a_class : LongestBlockHasAClass
 longest_block_has_a_class fl_bits sl_bits fllen sllen p valid told =

@@ -26,14 +26,8 @@ IsRoundedUp-scaled m b n p t some_b some_p same is =
 
 -- one less, divided, and one more
 pub IsRoundedUp-by_one : (n p : ℕ) → 0 < n → 0 < p → IsRoundedUp n p ((n - 1) / p + 1)
-IsRoundedUp-by_one n p some_n some_p =
-    let low : (n - 1) / p * p ≤ n - 1 = div-mul-le_self (n - 1) p in
-    let high : n - 1 < (n - 1) / p * p + p = lt-div-mul-add some_p in
-    record { reached = omega arith; tight = omega arith }
+IsRoundedUp-by_one n p some_n some_p = grind (arith, div-mul-le_self, lt-div-mul-add)
 
 -- less than a whole added, and divided
 pub IsRoundedUp-by_rest : (n p : ℕ) → 0 < p → IsRoundedUp n p ((n + (p - 1)) / p)
-IsRoundedUp-by_rest n p some_p =
-    let low : (n + (p - 1)) / p * p ≤ n + (p - 1) = div-mul-le_self (n + (p - 1)) p in
-    let high : n + (p - 1) < (n + (p - 1)) / p * p + p = lt-div-mul-add some_p in
-    record { reached = omega arith; tight = omega arith }
+IsRoundedUp-by_rest n p some_p = grind (arith, div-mul-le_self, lt-div-mul-add)

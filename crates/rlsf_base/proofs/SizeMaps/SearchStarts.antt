@@ -16,16 +16,10 @@ use Rattle.rlsf_base.proofs.SizeMaps.Unmapped.{row_after}
 
 -- a class has no indices if it is past the rows, and else its own
 pub valid_indices-none : (fllen : ℕ) (c : SizeClass) → valid_indices fllen c ≡ None → 5 + fllen ≤ c.exponent
-valid_indices-none fllen c none = elim (cases_lt c.exponent (5 + fllen)) [
-  | inl valid ↦ let bad : Some (indices c) ≡ None = sym (cond-true _ (Some (indices c)) None (lt-ltb c.exponent (5 + fllen) valid)) ∙ none in absurd (cc)
-  | inr past ↦ past
-]
+valid_indices-none fllen c none = grind (arith, cases_lt, cond-true, lt-ltb)
 
 pub valid_indices-some : (fllen : ℕ) (c : SizeClass) (at : ℕ × ℕ) → valid_indices fllen c ≡ Some at → (c.exponent < 5 + fllen) × (indices c ≡ at)
-valid_indices-some fllen c at some = elim (cases_lt c.exponent (5 + fllen)) [
-  | inl valid ↦ let same : Some (indices c) ≡ Some at = sym (cond-true _ (Some (indices c)) None (lt-ltb c.exponent (5 + fllen) valid)) ∙ some in (valid, cc)
-  | inr past ↦ let bad : None ≡ Some at = sym (cond-false _ (Some (indices c)) None (le-ltb c.exponent (5 + fllen) past)) ∙ some in absurd (cc)
-]
+valid_indices-some fllen c at some = grind (arith, cases_lt, cond-true, lt-ltb, cond-false, le-ltb)
 
 -- ---- the search begins at the first class that reaches the size
 
@@ -92,10 +86,7 @@ module _ (fllen sllen size : ℕ) (any : 0 < sllen) (is : IsSize size) where
     behind end = class_is ∙ cond-false _ (in_row k (t - sllen)) (in_row (k + 1) 0) (le-ltb t (2 * sllen) end)
 
     past_row : 5 + fllen ≤ k → NoneReaches fllen sllen size
-    past_row past = elim (cases_lt t (2 * sllen)) [
-      | inl less ↦ past_rows (omega (arith, ap (λ c. c.exponent) (within less)))
-      | inr end ↦ past_rows (omega (arith, ap (λ c. c.exponent) (behind end)))
-    ]
+    past_row past = grind (arith, cases_lt, past_rows, within, behind)
 
     in_own_row : k < 5 + fllen → 5 ≤ k → (at : ℕ × ℕ) → (k - 5, t - sllen) ≡ at → IsSearchStart fllen sllen size at.0 at.1
     in_own_row valid from at same = elim (cases_lt t (2 * sllen)) [

@@ -23,19 +23,10 @@ module _ (sllen n : ℕ) (c : SizeClass) (some : 0 < sllen) (in_row : c.division
 
   -- such a size is below a power of two exactly where the row begins before it
   pub row_before : (x : ℕ) → n * sllen ≡ class_start sllen c → n < 2 ^ x → c.exponent < x
-  row_before x start below = elim (cases_lt c.exponent x) [
-    | inl before ↦ before
-    | inr after ↦ let order : 2 ^ x ≤ 2 ^ c.exponent = pow_mono after in absurd (omega (arith, row_begins start))
-  ]
+  row_before x start below = grind (arith, cases_lt, pow_mono, row_begins)
 
   pub row_after : (x : ℕ) → 2 ^ x * sllen ≤ class_start sllen c → x ≤ c.exponent
-  row_after x past = elim (cases_lt c.exponent x) [
-    | inl before ↦
-        let order : 2 ^ suc c.exponent ≤ 2 ^ x = pow_mono before in
-        let rows : 2 ^ suc c.exponent * sllen ≤ 2 ^ x * sllen = mul-le-mul_right sllen order in
-        absurd (omega (arith, row_goes_on))
-    | inr after ↦ after
-  ]
+  row_after x past = grind (arith, cases_lt, pow_mono, mul-le-mul_right, row_goes_on)
 
 -- ---- what is computed of it
 
@@ -53,10 +44,7 @@ module _ (fllen sllen size : ℕ) (some : 0 < sllen) (any : 0 < size) where
       sym (cond-true _ (cond (ltb c.exponent 64) (Some (least_size sllen c)) None) None valid ∙ cond-true _ (Some (least_size sllen c)) None fits ∙ ap Some least)
 
   pub unmapped-invalid : 2 ^ (5 + fllen) * sllen ≤ class_start sllen (reaching_class sllen size) → None ≡ map_ceil_and_unmap fllen sllen size
-  unmapped-invalid past =
-      let c = reaching_class sllen size in
-      let invalid = le-ltb c.exponent (5 + fllen) (row_after sllen 0 c some in_row (5 + fllen) past) in
-      sym (cond-false _ (cond (ltb c.exponent 64) (Some (least_size sllen c)) None) None invalid)
+  unmapped-invalid past = grind (arith, le-ltb, row_after, in_row, cond-false, ltb)
 
   pub unmapped-past : 2 ^ 64 * sllen ≤ class_start sllen (reaching_class sllen size) → None ≡ map_ceil_and_unmap fllen sllen size
   unmapped-past past =

@@ -1,5 +1,5 @@
 -- What a written word leaves: it reads back, and every other word and byte is as it was.
-use Rattle.std.proofs.Common.{◌≡◌, ◌≢◌, ℕ, ◌+◌, ◌-◌, ◌%◌, ◌^◌, ◌<◌, ◌≤◌, ◌⊎◌, [], length, take, drop, arith, inl, inr, refl, sym}
+use Rattle.std.proofs.Common.{◌≡◌, ◌≢◌, ℕ, ◌+◌, ◌-◌, ◌%◌, ◌^◌, ◌<◌, ◌≤◌, ◌⊎◌, [], length, take, drop, arith, inl, inr, refl}
 use Rattle.std.proofs.Common.{◌∙◌, ap}
 use Rattle.std.proofs.lemmas.Bool.{cases_lt}
 use Rattle.std.proofs.lemmas.Nat.{from_le_bytes-to_le_bytes_8}
@@ -46,23 +46,11 @@ module _ (m n : Space) (addr word : ℕ) (placed : IsWritable m addr) (start : n
 
   -- and those that were the memory's own still are
   pub is_own-written : (k : ℕ) → m.start ≤ k → is_own (out_at n k) ≡ is_own (out_at m k)
-  is_own-written k inside = elim (cases_lt k addr) [
-    | inl before ↦ ap is_own (out_at-other k inside (inl before))
-    | inr behind ↦ elim (cases_lt k (addr + 8)) [
-      | inl there ↦ ap is_own (out_at-there k behind there) ∙ sym (placed.2 k behind there)
-      | inr past ↦ ap is_own (out_at-other k inside (inr past))
-    ]
-  ]
+  is_own-written k inside = grind (arith, cases_lt, out_at-other, out_at-there)
 
   -- and what was here still is
   pub here-written : (k : ℕ) → m.start ≤ k → out_at m k ≡ here → out_at n k ≡ here
-  here-written k inside was = elim (cases_lt k addr) [
-    | inl before ↦ out_at-other k inside (inl before) ∙ was
-    | inr behind ↦ elim (cases_lt k (addr + 8)) [
-      | inl there ↦ out_at-there k behind there
-      | inr past ↦ out_at-other k inside (inr past) ∙ was
-    ]
-  ]
+  here-written k inside was = grind (arith, cases_lt, out_at-other, out_at-there)
 
   -- the word reads back
   pub word_at-same : word < 2 ^ 64 → word_at n addr ≡ word

@@ -8,14 +8,11 @@ use types.Kit.{‵, raw, ◌⊛◌, ◌$◌, ◌∵◌, !, qed, drop, move, use0
 use types.Part.{agg}
 use types.Run.{no_more, and_then, returns, enter}
 use types.ByLocal.{alloc_all, pass_all, free_all, look_at, get, sets}
-use denote.Builtin.{usize}
-use denote.Exit.{yes}
 use denote.Plain.{uint_vals, uint_Tells}
-use denote.RawPtr.{Ptr, RawPtr, in_a_block, rawptr_vals, rawptr_Tells, rawptr_Lawful}
-use denote.Signature.{plain}
+use denote.RawPtr.{Ptr, in_a_block, rawptr_vals, rawptr_Tells, rawptr_Lawful}
 use denote.Steps.{nothing, heard}
 use denote.Triple.Entry.{on_entry}
-use denote.Triple.Walked.{says, Stays, walk_of, stay_dropped, Goes-dropped, ends_at}
+use denote.Triple.Walked.{says, Stays, walk_of, ends_at}
 use Rattle.std.proofs.raw_atomic.Walks.{proved}
 use Rattle.rlsf_base.specs.Out.{Change, raw as raw', kept_at}
 use Rattle.rlsf_base.specs.Changes.{came_raw}
@@ -24,19 +21,18 @@ use Rattle.rlsf_base.proofs.Changes.{changed-there, raw-own}
 use Rattle.rlsf_base.proofs.RawBlock.Rows.{room-held}
 use Rattle.rlsf_base.proofs.RawBlock.Units.{ways-same, unit-all}
 use Rattle.rlsf_base.proofs.RawBlock.Values.{mark_val, mark_own, mark_made}
+use Rattle.rlsf_base.proofs.RawBlock.Dropped.{all_dropped, all_go}
 use Rattle.rlsf_base.specs.contracts.memory.block.Bytes as owner
 use Rattle.rlsf_base.specs.contracts.memory.block.adopt_room as f
 use Rattle.rlsf_base.proofs.memory.block.adopt_room.Statement.{statement}
 use Rattle.rlsf_base.proofs.memory.block.adopt_room.Code as code
 
-abbrev stayed : Stays f.ended.signature.params f.ended.kept
-stayed = (stay_dropped _ yes, (stay_dropped _ yes, (stay_dropped _ yes, tt)))
-
 pub adopt_room_spec : {M : Type 1} → statement M
 adopt_room_spec 𝓤 𝓛 𝓜 𝓡 wired =
+    let stayed : Stays f.ended.signature.params f.ended.kept = all_dropped f.ended.signature.params f.ended.kept in
     let c = f.clauses 𝓛 𝓜.mem 𝓡.returns in let W = walk_of 𝓛 f.ended stayed c in
-    let goes = Goes-dropped 𝓛 0 (plain (λ _. usize)) yes (λ κs x w. refl) in
-    proved 𝓛 f.ended stayed c 𝓜 𝓡 (Goes-dropped 𝓛 0 (plain (λ _. RawPtr)) yes (λ κs x w. refl), (goes, (goes, tt)))
+    proved 𝓛 f.ended stayed c 𝓜 𝓡
+    (all_go 𝓛 0 f.ended.signature.params f.ended.kept ((λ κs x w. tt), ((λ κs x w. tt), ((λ κs x w. tt), tt))))
     f.Key.name code.function (code.unfolded 𝓤 𝓛.H 𝓜 𝓡 wired)
     (λ κs. (rawptr_vals, (uint_vals w64, (uint_vals w64, tt)))) (λ κs. (rawptr_Tells, (uint_Tells w64, (uint_Tells w64, tt)))) (λ κs qs bounds a g are.
     let start = a.1.0 in let len = a.1.1.0 in let units = units_from start len in

@@ -43,17 +43,16 @@ use Rattle.rlsf_base.proofs.memory.block.deallocate.Code as compiled
 
 pub deallocate_spec : {M : Type 1} → statement M
 deallocate_spec 𝓤 𝓛 𝓜 𝓡 wired A L g d dd met md =
-    let H = 𝓛.H in
     let En₀ = ended A g d dd in
     let c = clauses A g d dd 𝓛 𝓜.mem 𝓡.returns in
     let args : Args = bounded (a_type ∷ []) (A, tt) (dcons d (dcons dd dnil)) in
     let fn : Fn = inst_fn args compiled.function in
     let stays : Stays En₀.signature.params En₀.kept = all_dropped En₀.signature.params En₀.kept in
-    let C = (tables 𝓤 H 𝓜 𝓡 𝓡.env).C in
-    let Λ = (tables 𝓤 H 𝓜 𝓡 𝓡.env).Λ in
+    let C = (tables 𝓤 𝓛.H 𝓜 𝓡 𝓡.env).C in
+    let Λ = (tables 𝓤 𝓛.H 𝓜 𝓡 𝓡.env).Λ in
     proved_at 𝓛 En₀ stays c 𝓜 𝓡
     (all_go 𝓛 2 En₀.signature.params En₀.kept ((λ κs x f. tt), ((λ κs x f. tt), ((λ κs x f. tt), ((λ κs x f. tt), ((λ κs x f. tt), tt))))))
-    (#self args) fn (compiled.unfolded 𝓤 H 𝓜 𝓡 wired (A, tt) d dd) (λ z are.
+    (#self args) fn (compiled.unfolded 𝓤 𝓛.H 𝓜 𝓡 wired (A, tt) d dd) (λ z are.
     let Post : Val → SProp 𝓤 = (walk_of 𝓛 En₀ stays c).post z in
     let a = z.0.3 in let vss = z.0.4 in
     let Y : Al = record { row = A; laws = L; g = g; d = d; drops = dd } in
@@ -80,14 +79,14 @@ deallocate_spec 𝓤 𝓛 𝓜 𝓡 wired A L g d dd met md =
     (λ i. (due.4 i, (due.0 ∙ e) i, due.1 i, due.2 i, due.3 i)) refl $
     -- [the room; the ways; the deed; the allocator; the tokens]
     let back : Fml = fwand (ways_of (begins_in skip (length bs)) 0 units b o) (froom τ b o) in
-    move ! (2 ∷ []) $ fsplit ! $ move ! (2 ∷ 1 ∷ 3 ∷ 0 ∷ []) $ use2 𝓛 (‵ back) (apply∗ 𝓤 (H.room (bytes_ty (length bs)) b (skip + o)) (sem 𝓛 back)) $
-    move ! (1 ∷ 0 ∷ []) $ use2 𝓛 (‵ (froom τ b o)) (apply∗ 𝓤 (sem 𝓛 (ways_of (begins_in skip (length bs)) 0 units b o)) (H.room τ b o)) $
+    move ! (2 ∷ []) $ fsplit ! $ move ! (2 ∷ 1 ∷ 3 ∷ 0 ∷ []) $ use2 𝓛 (‵ back) (apply∗ 𝓤 (𝓛.H.room (bytes_ty (length bs)) b (skip + o)) (sem 𝓛 back)) $
+    move ! (1 ∷ 0 ∷ []) $ use2 𝓛 (‵ (froom τ b o)) (apply∗ 𝓤 (sem 𝓛 (ways_of (begins_in skip (length bs)) 0 units b o)) (𝓛.H.room τ b o)) $
     -- [the room; the allocator's token; the allocator; the tokens]
     move ! (3 ∷ []) $ use1 𝓛 (‵ (flft κ q) ⊛ ‵ (flft z.0.0.1.0 z.0.1.1.0) ⊛ ‵ ftrue) (id⊢ 𝓤 _) $ split ! $ move ! (4 ∷ 0 ∷ []) $ join ! $ move !
     (2 ∷ 3 ∷ 0 ∷ []) $
     let y = at_gives Y 𝓛 𝓜.mem 𝓡.returns κ q handle h b o (units * 16) 16 τ in
     let fits : units * 16 < 2 ^ 64 = omega (arith, lies.3) in
-    regoal ! (λ (us : List Val). prop (WpFn 𝓤 H C Λ fn us Post))
+    regoal ! (λ (us : List Val). prop (WpFn 𝓤 𝓛.H C Λ fn us Post))
     (λ i. are.0.0 i ++ ((base_told base.ptr vss.1.0 are.1.0 ∙ ap (λ (p : Ptr). base_val p ∷ []) e) i ++ (are.1.1.0.0 i
     ++ (mark_told vss.1.1.1.0 are.1.1.1.0.0 i ++ (mark_told vss.1.1.1.1.0 are.1.1.1.1.0.0 i ++ []))))) refl $
     enter ! C Λ fn (vptr handle.0 handle.1 ∷ base_val (block_ptr b o) ∷ vint w64 units ∷ mark_val ∷ mark_val ∷ []) Post $

@@ -37,16 +37,15 @@ use Rattle.rlsf_base.proofs.memory.block.no_block.Code as compiled
 
 pub no_block_spec : {M : Type 1} → statement M
 no_block_spec 𝓤 𝓛 𝓜 𝓡 wired A L g d dd met md =
-    let H = 𝓛.H in
     let En₀ = ended A g d dd in
     let c = clauses A g d dd 𝓛 𝓜.mem 𝓡.returns in
     let args : Args = bounded (a_type ∷ []) (A, tt) (dcons d (dcons dd dnil)) in
     let fn : Fn = inst_fn args compiled.function in
     let stays : Stays En₀.signature.params En₀.kept = all_dropped En₀.signature.params En₀.kept in
-    let C = (tables 𝓤 H 𝓜 𝓡 𝓡.env).C in
-    let Λ = (tables 𝓤 H 𝓜 𝓡 𝓡.env).Λ in
+    let C = (tables 𝓤 𝓛.H 𝓜 𝓡 𝓡.env).C in
+    let Λ = (tables 𝓤 𝓛.H 𝓜 𝓡 𝓡.env).Λ in
     proved_at 𝓛 En₀ stays c 𝓜 𝓡 (all_go 𝓛 2 En₀.signature.params En₀.kept ((λ κs x f. tt), ((λ κs x f. tt), tt)))
-    (#self args) fn (compiled.unfolded 𝓤 H 𝓜 𝓡 wired (A, tt) d dd) (λ z are.
+    (#self args) fn (compiled.unfolded 𝓤 𝓛.H 𝓜 𝓡 wired (A, tt) d dd) (λ z are.
     let Post : Val → SProp 𝓤 = (walk_of 𝓛 En₀ stays c).post z in
     let a = z.0.3 in let vss = z.0.4 in let Z : RattleType = param 0 A in
     let at = a.0.ref_ptr in let skip = a.1.0 in
@@ -54,7 +53,7 @@ no_block_spec 𝓤 𝓛 𝓜 𝓡 wired A L g d dd met md =
     qed 𝓛 ((raw (alive 𝓛 En₀.signature z.0.0 z.0.1) ⊛ ‵ (owns (types_at En₀.signature.params z.0.0) a vss))
     ∷ (raw (fact 𝓤 (z.0.0.1.0 ⊑ A.lives)) ⊛ ‵ ftrue) ∷ []) ∵
     move ! (1 ∷ []) $ skips ! $ split ! $ move ! (1 ∷ []) $ skips ! $
-    regoal ! (λ (us : List Val). prop (WpFn 𝓤 H C Λ fn us Post)) (λ i. are.0.0 i ++ (are.1.0.0 i ++ [])) refl $
+    regoal ! (λ (us : List Val). prop (WpFn 𝓤 𝓛.H C Λ fn us Post)) (λ i. are.0.0 i ++ (are.1.0.0 i ++ [])) refl $
     enter ! C Λ fn (vptr at.0 at.1 ∷ vint w64 skip ∷ []) Post $
     alloc_all ! (λ l. pass_all ! refl ((tt, tt), ((tt, record { fits = are.1.0.1 }), tt)) $
     sets ! (agg ! (no_more !)) refl (tt, tt) $ sets ! (addr ! (from ! (stop !))) refl (tt, tt) $

@@ -19,12 +19,9 @@ use Rattle.rlsf_codes.specs.contracts.looks.Looks.add as f
 use Rattle.rlsf_codes.proofs.looks.Looks.add.Statement.{statement}
 use Rattle.rlsf_codes.proofs.looks.Looks.add.Code as code
 
-abbrev stayed : Stays f.ended.signature.params f.ended.kept
-stayed =
-    (stay_ref (0 ∷ []) tt (plain (λ _. looks.the_row)), (stay_dropped (plain (λ _. usize)) f.ended.kept.1.0, tt))
-
 pub add_spec : {M : Type 1} → statement M
 add_spec 𝓤 𝓛 𝓜 𝓡 wired =
+    let stayed : Stays f.ended.signature.params f.ended.kept = (stay_ref (0 ∷ []) tt (plain (λ _. looks.the_row)), (stay_dropped _ f.ended.kept.1.0, tt)) in
     let c = f.clauses 𝓛 𝓜.mem 𝓡.returns in let W = walk_of 𝓛 f.ended stayed c in
     proved 𝓛 f.ended stayed c 𝓜 𝓡 (
       Goes-ref 𝓛 1 0 tt (plain (λ _. looks.the_row)),

@@ -15,11 +15,9 @@ use Rattle.rlsf_codes.specs.contracts.looks.Looks.new as f
 use Rattle.rlsf_codes.proofs.looks.Looks.new.Statement.{statement}
 use Rattle.rlsf_codes.proofs.looks.Looks.new.Code as code
 
-abbrev stayed : Stays f.ended.signature.params f.ended.kept
-stayed = tt
-
 pub new_spec : {M : Type 1} → statement M
 new_spec 𝓤 𝓛 𝓜 𝓡 wired =
+    let stayed : Stays f.ended.signature.params f.ended.kept = tt in
     let c = f.clauses 𝓛 𝓜.mem 𝓡.returns in let W = walk_of 𝓛 f.ended stayed c in
     proved 𝓛 f.ended stayed c 𝓜 𝓡 tt f.Key.name code.function (code.unfolded 𝓤 𝓛.H 𝓜 𝓡 wired) (λ κs. tt) (λ κs. tt) (λ κs qs bounds a g are.
     let y : W.Ghost = ((κs, qs, bounds, a, tt), g) in

@@ -1,5 +1,5 @@
 -- Shows that `from_first` is the owner of the same bytes, by the place of the first. Assumes `Logic`.
-use Rattle.std.proofs.Common.{◌≡◌, ℕ, ◌+◌, ◌^◌, List, [], ◌∷◌, length, refl, sym, ap, ◌∙◌, arith, w64}
+use Rattle.std.proofs.Common.{◌≡◌, ℕ, ◌+◌, ◌^◌, [], ◌∷◌, length, refl, sym, ap, ◌∙◌, arith, w64}
 use Rattle.std.specs.Prelude.{eqb, if◌then◌else◌}
 use base.Fraction.{full_share}
 use mir.Val.{Val}
@@ -15,12 +15,10 @@ use denote.RattleType.{RattleType, owns}
 use denote.Param.{layout}
 use denote.RawPtr.{Ptr, block_ptr, in_a_block, ◌+ₚ◌}
 use denote.Plain.{uint_vals, uint_Tells}
-use denote.Builtin.{usize}
-use denote.Signature.{plain, types_at}
+use denote.Signature.{types_at}
 use denote.Steps.{nothing, heard}
 use denote.Struct.Tuple.{Tuple}
-use denote.Triple.Walked.{says, Stays, stay_dropped, walk_of, Goes-dropped, ends_at}
-use Rattle.core.proofs.alloc.Calls.{Goes-blank}
+use denote.Triple.Walked.{says, Stays, walk_of, ends_at}
 use Rattle.core.proofs.alloc.Shapes.{after}
 use Rattle.std.proofs.raw_atomic.Walks.{proved}
 use Rattle.rlsf_base.specs.Out.{kept_at}
@@ -28,35 +26,25 @@ use Rattle.rlsf_base.specs.Steps.Ownership.{held, bytes_own, ways_of, own_unit}
 use Rattle.rlsf_base.proofs.RawBlock.Units.{ways_first}
 use Rattle.rlsf_base.proofs.RawBlock.OwnerValues.{bytes_vals, bytes_Tells}
 use Rattle.rlsf_base.proofs.RawBlock.Values.{base_val, base_vals, base_Tells, base_typed, base_own, base_made, mark_val, mark_own, mark_made, two_val, two_of}
+use Rattle.rlsf_base.proofs.RawBlock.Dropped.{all_dropped, all_go}
 use Rattle.rlsf_base.specs.contracts.memory.block.Base as base_type
 use Rattle.rlsf_base.specs.contracts.memory.block.Bytes as owner
 use Rattle.rlsf_base.specs.contracts.memory.block.Bytes.from_first as f
 use Rattle.rlsf_base.proofs.memory.block.Bytes.from_first.Statement.{statement}
 use Rattle.rlsf_base.proofs.memory.block.Bytes.from_first.Code as code
 
-abbrev stayed : Stays f.ended.signature.params f.ended.kept
-stayed = (
-  stay_dropped (plain (λ _. owner.the_row)) f.ended.kept.0,
-  (stay_dropped (plain (λ _. base_type.the_row)) f.ended.kept.1.0, (stay_dropped (plain (λ _. usize)) f.ended.kept.1.1.0, tt)),
-)
-
 pub from_first_spec : {M : Type 1} → statement M
 from_first_spec 𝓤 𝓛 𝓜 𝓡 wired =
+    let stayed : Stays f.ended.signature.params f.ended.kept = all_dropped f.ended.signature.params f.ended.kept in
     let c = f.clauses 𝓛 𝓜.mem 𝓡.returns in let W = walk_of 𝓛 f.ended stayed c in let 𝓣 = tables 𝓤 𝓛.H 𝓜 𝓡 𝓡.env in
-    proved 𝓛 f.ended stayed c 𝓜 𝓡 (
-      Goes-blank 𝓛 0 (plain (λ _. owner.the_row)) f.ended.kept.0 (λ κs x w. tt),
-      (
-        Goes-dropped 𝓛 0 (plain (λ _. base_type.the_row)) f.ended.kept.1.0 (λ κs x w. refl),
-        (Goes-dropped 𝓛 0 (plain (λ _. usize)) f.ended.kept.1.1.0 (λ κs x w. refl), tt),
-      ),
-    )
+    proved 𝓛 f.ended stayed c 𝓜 𝓡
+    (all_go 𝓛 0 f.ended.signature.params f.ended.kept ((λ κs x w. tt), ((λ κs x w. tt), ((λ κs x w. tt), tt))))
     f.Key.name code.function (code.unfolded 𝓤 𝓛.H 𝓜 𝓡 wired)
     (λ κs. (bytes_vals, (base_vals, (uint_vals w64, tt)))) (λ κs. (bytes_Tells, (base_Tells, (uint_Tells w64, tt)))) (λ κs qs bounds a g are.
     let d = a.0 in let base = a.1.0 in let skip = a.1.1.0 in
-    let vss : List Val × (List Val × (List Val × Unit {0})) = (mark_val ∷ [], (base_vals base, (uint_vals w64 skip, tt))) in
     let Asked : Type 0 = (base.ptr ≡ d.at) × (d.skip ≡ skip) in
-    let y : W.Ghost = ((κs, qs, bounds, a, vss), g) in
-    qed 𝓛 ((‵ ftrue ⊛ ‵ (owns (types_at f.signature.params κs) a vss)) ∷ raw (fact 𝓤 Asked) ∷ []) ∵
+    let y : W.Ghost = ((κs, qs, bounds, a, (mark_val ∷ [], (base_vals base, (uint_vals w64 skip, tt)))), g) in
+    qed 𝓛 ((‵ ftrue ⊛ ‵ (owns (types_at f.signature.params κs) a y.0.4)) ∷ raw (fact 𝓤 Asked) ∷ []) ∵
     move ! (1 ∷ []) $ heard ! Asked (λ asked. split ! $ drop ! $ fsplit ! $ fsplit ! $ keep ! (1 ∷ []) $
     enter ! _ _ _ _ _ $ alloc_all ! (λ l. pass_all ! refl ((tt, (tt, tt)), (base_typed base.ptr, ((tt, record { fits = are.1.1.0.1 }), tt))) $
     in_a_block ! d.at (λ p. bytes_own p d.skip d.bytes d.out d.units) (id⊢ 𝓤 (never 𝓤)) (λ b o e. fsplit ! $ flt_l ! (λ small. fsplit ! $

@@ -5,30 +5,26 @@ use base.Fml.{ftrue}
 use types.Kit.{‵, ◌⊛◌, ◌$◌, ◌∵◌, !, qed, keep, drop, split, join, group, fsplit, feq_i, suffices, done}
 use types.Run.{unit_lit, of_opd, returns, enter}
 use types.ByLocal.{alloc_all, pass_all, free_all, look_at, sets}
-use denote.Signature.{plain}
 use denote.Steps.{nothing}
-use denote.Triple.Walked.{Stays, walk_of, stay_dropped, ends_at}
-use Rattle.core.proofs.alloc.Calls.{Goes-blank}
+use denote.Triple.Walked.{Stays, walk_of, ends_at}
 use Rattle.std.proofs.raw_atomic.Walks.{proved}
 use Rattle.rlsf_base.proofs.RawBlock.Values.{mark_val}
 use Rattle.rlsf_base.proofs.memory.block.Bytes.TheLaws.{lowers}
+use Rattle.rlsf_base.proofs.RawBlock.Dropped.{all_dropped, all_go}
 use Rattle.rlsf_base.specs.contracts.memory.block.Bytes as owner
 use Rattle.rlsf_base.specs.contracts.memory.block.Bytes.into_raw as f
 use Rattle.rlsf_base.proofs.memory.block.Bytes.into_raw.Statement.{statement}
 use Rattle.rlsf_base.proofs.memory.block.Bytes.into_raw.Code as code
 
-abbrev stayed : Stays f.ended.signature.params f.ended.kept
-stayed = (stay_dropped (plain (λ _. owner.the_row)) f.ended.kept.0, tt)
-
 pub into_raw_spec : {M : Type 1} → statement M
 into_raw_spec 𝓤 𝓛 𝓜 𝓡 wired =
+    let stayed : Stays f.ended.signature.params f.ended.kept = all_dropped f.ended.signature.params f.ended.kept in
     let c = f.clauses 𝓛 𝓜.mem 𝓡.returns in let W = walk_of 𝓛 f.ended stayed c in
     proved 𝓛 f.ended stayed c 𝓜 𝓡
-    (Goes-blank 𝓛 0 (plain (λ _. owner.the_row)) f.ended.kept.0 (λ κs x w. tt), tt)
+    (all_go 𝓛 0 f.ended.signature.params f.ended.kept ((λ κs x w. tt), tt))
     f.Key.name code.function (code.unfolded 𝓤 𝓛.H 𝓜 𝓡 wired)
     (λ κs. ((λ t. mark_val ∷ []), tt)) (λ κs. (lowers.val_is, tt)) (λ κs qs bounds a g are.
-    let vss : List Val × Unit {0} = (mark_val ∷ [], tt) in
-    let y : W.Ghost = ((κs, qs, bounds, a, vss), g) in
+    let y : W.Ghost = ((κs, qs, bounds, a, (mark_val ∷ [], tt)), g) in
     qed 𝓛 ((‵ ftrue ⊛ (‵ ((owner.the_row).own_val a.0 (mark_val ∷ [])) ⊛ ‵ ftrue)) ∷ ‵ ftrue ∷ []) ∵
     split ! $ drop ! $ split ! $ fsplit ! $ keep ! (1 ∷ []) $
     enter ! _ _ _ _ _ $ alloc_all ! (λ l. pass_all ! refl ((tt, (tt, tt)), tt) $

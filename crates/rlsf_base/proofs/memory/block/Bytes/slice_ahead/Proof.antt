@@ -18,18 +18,19 @@ use denote.Param.{layout}
 use denote.RawPtr.{Ptr, ◌+ₚ◌, in_a_block}
 use denote.Ref.{shr_vals, shr_Tells}
 use denote.Plain.{uint_vals, uint_Tells}
-use denote.Builtin.{u8, usize, RefOf}
+use denote.Builtin.{u8}
 use denote.Opens.{hide, unhide}
-use denote.Signature.{Slot, plain, types_at}
+use denote.Signature.{types_at}
 use denote.Slice.{slice_val, elements_shared}
 use denote.Steps.{nothing, heard}
-use denote.Triple.Walked.{says, Stays, stay_dropped, walk_of, Goes-dropped, ends_at}
+use denote.Triple.Walked.{says, Stays, walk_of, ends_at}
 use Rattle.core.proofs.alloc.Shapes.{after}
 use Rattle.std.proofs.raw_atomic.Walks.{proved}
 use Rattle.rlsf_base.specs.Steps.Owners.{HasHere}
 use Rattle.rlsf_base.specs.Steps.Ownership.{bytes_lent}
 use Rattle.rlsf_base.proofs.RawBlock.Rows.{run_seen}
 use Rattle.rlsf_base.proofs.RawBlock.Values.{base_val, base_vals, base_Tells, base_typed}
+use Rattle.rlsf_base.proofs.RawBlock.Dropped.{all_dropped, all_go}
 use Rattle.rlsf_base.specs.contracts.memory.block.Bytes as owner
 use Rattle.rlsf_base.specs.contracts.memory.block.Base as base_type
 use Rattle.rlsf_base.specs.contracts.memory.block.Units as units_type
@@ -37,47 +38,20 @@ use Rattle.rlsf_base.specs.contracts.memory.block.Bytes.slice_ahead as f
 use Rattle.rlsf_base.proofs.memory.block.Bytes.slice_ahead.Statement.{statement}
 use Rattle.rlsf_base.proofs.memory.block.Bytes.slice_ahead.Code as code
 
-abbrev units_ref : Slot 2
-units_ref = RefOf (1 ∷ []) tt (plain (λ _. units_type.the_row)) (λ _. tt)
-
-abbrev stayed : Stays f.ended.signature.params f.ended.kept
-stayed = (
-  stay_dropped (RefOf (0 ∷ []) tt (plain (λ _. owner.the_row)) (λ _. tt)) f.ended.kept.0,
-  (
-    stay_dropped (plain (λ _. base_type.the_row)) f.ended.kept.1.0,
-    (
-      stay_dropped units_ref f.ended.kept.1.1.0,
-      (stay_dropped (plain (λ _. usize)) f.ended.kept.1.1.1.0, (stay_dropped (plain (λ _. usize)) f.ended.kept.1.1.1.1.0, tt)),
-    ),
-  ),
-)
-
 pub slice_ahead_spec : {M : Type 1} → statement M
 slice_ahead_spec 𝓤 𝓛 𝓜 𝓡 wired =
+    let stayed : Stays f.ended.signature.params f.ended.kept = all_dropped f.ended.signature.params f.ended.kept in
     let c = f.clauses 𝓛 𝓜.mem 𝓡.returns in let W = walk_of 𝓛 f.ended stayed c in let 𝓣 = tables 𝓤 𝓛.H 𝓜 𝓡 𝓡.env in
-    proved 𝓛 f.ended stayed c 𝓜 𝓡 (
-      Goes-dropped 𝓛 2 (RefOf (0 ∷ []) tt (plain (λ _. owner.the_row)) (λ _. tt)) f.ended.kept.0 (λ κs x w. refl),
-      (
-        Goes-dropped 𝓛 2 (plain (λ _. base_type.the_row)) f.ended.kept.1.0 (λ κs x w. refl),
-        (
-          Goes-dropped 𝓛 2 units_ref f.ended.kept.1.1.0 (λ κs x w. refl),
-          (
-            Goes-dropped 𝓛 2 (plain (λ _. usize)) f.ended.kept.1.1.1.0 (λ κs x w. refl),
-            (Goes-dropped 𝓛 2 (plain (λ _. usize)) f.ended.kept.1.1.1.1.0 (λ κs x w. refl), tt),
-          ),
-        ),
-      ),
-    )
+    proved 𝓛 f.ended stayed c 𝓜 𝓡
+    (all_go 𝓛 2 f.ended.signature.params f.ended.kept ((λ κs x w. tt), ((λ κs x w. tt), ((λ κs x w. tt), ((λ κs x w. tt), ((λ κs x w. tt), tt))))))
     f.Key.name code.function (code.unfolded 𝓤 𝓛.H 𝓜 𝓡 wired)
     (λ κs. (shr_vals, (base_vals, (shr_vals, (uint_vals w64, (uint_vals w64, tt))))))
     (λ κs. (shr_Tells (named 0) κs.0 owner.the_row, (base_Tells, (shr_Tells (named 1) κs.1.0 units_type.the_row, (uint_Tells w64, (uint_Tells w64, tt))))))
     (λ κs qs bounds a g are.
     let κ = κs.0 in let d = a.0.now in let base = a.1.0 in let spot : ℕ = a.1.1.0.now.first * 16 in let ahead = a.1.1.1.0 in let len = a.1.1.1.1.0 in
-    let vss : List Val × (List Val × (List Val × (List Val × (List Val × Unit {0})))) =
-    (shr_vals a.0, (base_vals base, (shr_vals a.1.1.0, (uint_vals w64 ahead, (uint_vals w64 len, tt))))) in
     let Asked : Type 0 = (base.ptr ≡ d.at +ₚ spot) × HasHere d (spot + ahead) len in
-    let y : W.Ghost = ((κs, qs, bounds, a, vss), g) in
-    qed 𝓛 (((‵ (flft κ qs.0) ⊛ (‵ (flft κs.1.0 qs.1.0) ⊛ ‵ ftrue)) ⊛ ‵ (owns (types_at f.signature.params κs) a vss)) ∷ raw (fact 𝓤 Asked) ∷ []) ∵
+    let y : W.Ghost = ((κs, qs, bounds, a, (shr_vals a.0, (base_vals base, (shr_vals a.1.1.0, (uint_vals w64 ahead, (uint_vals w64 len, tt)))))), g) in
+    qed 𝓛 (((‵ (flft κ qs.0) ⊛ (‵ (flft κs.1.0 qs.1.0) ⊛ ‵ ftrue)) ⊛ ‵ (owns (types_at f.signature.params κs) a y.0.4)) ∷ raw (fact 𝓤 Asked) ∷ []) ∵
     move ! (1 ∷ []) $ heard ! Asked (λ asked. split ! $ split ! $ move ! (2 ∷ []) $ fsplit ! $ fsplit ! $ keep ! (1 ∷ 3 ∷ 4 ∷ []) $
     -- [what the `&` shows; the token of κ; that of the other lifetime]
     enter ! _ _ _ _ _ $ alloc_all !

@@ -22,16 +22,16 @@ use denote.Param.{layout}
 use denote.RawPtr.{Ptr, block_ptr, in_a_block}
 use denote.Ref.{MutBor, mut_vals, mut_Tells}
 use denote.Plain.{uint_vals, uint_Tells}
-use denote.Builtin.{u8, usize}
+use denote.Builtin.{u8}
 use denote.Follow.{follows}
 use denote.FollowSlice.{Elements, lends_Elements}
 use denote.Array.{Array}
-use denote.Signature.{plain, mut_ref_to, types_at}
+use denote.Signature.{types_at}
 use denote.Slice.{MutSlice, slice_val}
 use denote.Steps.{nothing, heard, opens}
 use denote.Struct.Struct.{Struct}
 use denote.Struct.Owning.{shape}
-use denote.Triple.Walked.{says, Stays, stay_dropped, walk_of, Goes-dropped, Goes-spent_ref, ends_at}
+use denote.Triple.Walked.{says, Stays, walk_of, ends_at}
 use Rattle.core.proofs.alloc.Shapes.{after}
 use Rattle.std.proofs.raw_atomic.Walks.{proved}
 use Rattle.rlsf_base.specs.Out.{kept_at}
@@ -42,21 +42,13 @@ use Rattle.rlsf_base.specs.Lends.{refilled}
 use Rattle.rlsf_base.specs.Steps.LentParts.{owner_with}
 use Rattle.rlsf_base.proofs.RawBlock.Rows.{Row, Around, run_out, run_in}
 use Rattle.rlsf_base.proofs.RawBlock.Values.{base_val, base_vals, base_Tells, base_typed}
+use Rattle.rlsf_base.proofs.RawBlock.Dropped.{all_dropped, all_go}
 use Rattle.rlsf_base.specs.contracts.memory.block.Bytes as owner
 use Rattle.rlsf_base.specs.contracts.memory.block.Base as base_type
 use Rattle.rlsf_base.specs.contracts.memory.block.Bytes.slice_mut as f
 use Rattle.rlsf_base.proofs.memory.block.Bytes.slice_mut.Statement.{statement}
 use Rattle.rlsf_base.proofs.memory.block.Bytes.slice_mut.Code as code
 use Rattle.std.specs.List.{refill}
-
-abbrev stayed : Stays f.ended.signature.params f.ended.kept
-stayed = (
-  stay_dropped (mut_ref_to (0 ∷ []) tt (plain (λ _. owner.the_row))) f.ended.kept.0,
-  (
-    stay_dropped (plain (λ _. base_type.the_row)) f.ended.kept.1.0,
-    (stay_dropped (plain (λ _. usize)) f.ended.kept.1.1.0, (stay_dropped (plain (λ _. usize)) f.ended.kept.1.1.1.0, tt)),
-  ),
-)
 
 module _ {M : Type 1} {𝓤 : Ura M} (𝓛 : Logic 𝓤) (rb ro b o : ℕ) (d : (owner.the_row).Denot) (i len : ℕ) (vs : List Val) where
   abbrev the_ways : Fml
@@ -91,26 +83,18 @@ module _ {M : Type 1} {𝓤 : Ura M} (𝓛 : Logic 𝓤) (rb ro b o : ℕ) (d : 
 
 pub slice_mut_spec : {M : Type 1} → statement M
 slice_mut_spec 𝓤 𝓛 𝓜 𝓡 wired =
+    let stayed : Stays f.ended.signature.params f.ended.kept = all_dropped f.ended.signature.params f.ended.kept in
     let c = f.clauses 𝓛 𝓜.mem 𝓡.returns in let W = walk_of 𝓛 f.ended stayed c in let 𝓣 = tables 𝓤 𝓛.H 𝓜 𝓡 𝓡.env in
-    proved 𝓛 f.ended stayed c 𝓜 𝓡 (
-      Goes-spent_ref 𝓛 1 (0 ∷ []) tt (plain (λ _. owner.the_row)),
-      (
-        Goes-dropped 𝓛 1 (plain (λ _. base_type.the_row)) f.ended.kept.1.0 (λ κs x w. refl),
-        (
-          Goes-dropped 𝓛 1 (plain (λ _. usize)) f.ended.kept.1.1.0 (λ κs x w. refl),
-          (Goes-dropped 𝓛 1 (plain (λ _. usize)) f.ended.kept.1.1.1.0 (λ κs x w. refl), tt),
-        ),
-      ),
-    )
+    proved 𝓛 f.ended stayed c 𝓜 𝓡
+    (all_go 𝓛 1 f.ended.signature.params f.ended.kept ((λ κs x w. tt), ((λ κs x w. tt), ((λ κs x w. tt), ((λ κs x w. tt), tt)))))
     f.Key.name code.function (code.unfolded 𝓤 𝓛.H 𝓜 𝓡 wired)
     (λ κs. (mut_vals, (base_vals, (uint_vals w64, (uint_vals w64, tt)))))
     (λ κs. (mut_Tells (named 0) κs.0 owner.the_row, (base_Tells, (uint_Tells w64, (uint_Tells w64, tt))))) (λ κs qs bounds a g are.
     let κ = κs.0 in let q = qs.0 in let rb = a.0.ref_ptr.0 in let ro = a.0.ref_ptr.1 in let γ = a.0.ghost_name in let d = a.0.now in let base = a.1.0 in let place = a.1.1.0 in
     let len = a.1.1.1.0 in
-    let vss : List Val × (List Val × (List Val × (List Val × Unit {0}))) = (mut_vals a.0, (base_vals base, (uint_vals w64 place, (uint_vals w64 len, tt)))) in
     let Asked : Type 0 = (base.ptr ≡ d.at) × HasHere d place len in
-    let y : W.Ghost = ((κs, qs, bounds, a, vss), g) in
-    qed 𝓛 (((‵ (flft κ q) ⊛ ‵ ftrue) ⊛ ‵ (owns (types_at f.signature.params κs) a vss)) ∷ raw (fact 𝓤 Asked) ∷ []) ∵
+    let y : W.Ghost = ((κs, qs, bounds, a, (mut_vals a.0, (base_vals base, (uint_vals w64 place, (uint_vals w64 len, tt))))), g) in
+    qed 𝓛 (((‵ (flft κ q) ⊛ ‵ ftrue) ⊛ ‵ (owns (types_at f.signature.params κs) a y.0.4)) ∷ raw (fact 𝓤 Asked) ∷ []) ∵
     move ! (1 ∷ []) $ heard ! Asked (λ asked. split ! $ split ! $ move ! (2 ∷ []) $ fsplit ! $ fsplit3 ! $ keep ! (1 ∷ 2 ∷ 4 ∷ []) $
     enter ! _ _ _ _ _ $ alloc_all ! (λ l. pass_all ! refl ((tt, tt), (base_typed base.ptr, ((tt, record { fits = are.1.1.0.1 }), ((tt, record { fits = are.1.1.1.0.1 }), tt)))) $
     opens ! tt owner.the_row {h = d} rb ro (λ vs. move ! (1 ∷ []) $ fsplit ! $ move ! (1 ∷ []) $

@@ -1,6 +1,5 @@
 -- Shows that `release_lent` returns those of its bytes that aren't out. Assumes `Logic`.
-use Rattle.std.proofs.Common.{ℕ, List, [], ◌∷◌, refl}
-use mir.Val.{Val}
+use Rattle.std.proofs.Common.{ℕ, [], ◌∷◌, refl}
 use base.Fml.{ftrue}
 use contract.Monad.{fact}
 use types.Kit.{‵, raw, ◌⊛◌, ◌$◌, ◌∵◌, !, qed, move, keep, drop, split, join, frame, group, feq_i, rewrite, suffices, done}
@@ -8,15 +7,14 @@ use types.Part.{whole, sub}
 use types.Run.{stop, fld, of_opd, returns, enter}
 use types.ByLocal.{alloc_all, pass_all, free_all, look_at, get_in, sets}
 use denote.RawPtr.{Ptr, ptr_val, rawptr_Lawful}
-use denote.Signature.{plain}
 use denote.Steps.{nothing, heard}
-use denote.Triple.Walked.{says, Stays, walk_of, stay_dropped, ends_at}
-use Rattle.core.proofs.alloc.Calls.{Goes-blank}
+use denote.Triple.Walked.{says, Stays, walk_of, ends_at}
 use Rattle.std.proofs.raw_atomic.Walks.{proved}
 use Rattle.rlsf_base.specs.RawParts.{LiesAtBlock}
 use Rattle.rlsf_base.specs.Steps.Ownership.{bytes_own}
 use Rattle.rlsf_base.proofs.RawBlock.Parts.{bytes_of_parts}
 use Rattle.rlsf_base.proofs.RawBlock.Values.{base_typed}
+use Rattle.rlsf_base.proofs.RawBlock.Dropped.{all_dropped, all_go}
 use Rattle.rlsf_base.specs.contracts.memory.block.RawParts.release_lent as f
 use Rattle.rlsf_base.proofs.memory.block.RawParts.release_lent.Statement.{statement}
 use Rattle.rlsf_base.proofs.memory.block.RawParts.release_lent.Code as code
@@ -24,20 +22,17 @@ use Rattle.rlsf_base.proofs.memory.block.RawParts.TheLaws as parts_laws
 use Rattle.rlsf_base.proofs.memory.block.RawParts.TheLaws.{lowers as parts_lowers}
 use Rattle.rlsf_base.specs.contracts.memory.block.RawParts as parts_type
 
-abbrev stayed : Stays f.ended.signature.params f.ended.kept
-stayed = (stay_dropped (plain (λ _. parts_type.the_row)) f.ended.kept.0, tt)
-
 pub release_lent_spec : {M : Type 1} → statement M
 release_lent_spec 𝓤 𝓛 𝓜 𝓡 wired =
+    let stayed : Stays f.ended.signature.params f.ended.kept = all_dropped f.ended.signature.params f.ended.kept in
     let c = f.clauses 𝓛 𝓜.mem 𝓡.returns in let W = walk_of 𝓛 f.ended stayed c in
     proved 𝓛 f.ended stayed c 𝓜 𝓡
-    (Goes-blank 𝓛 0 (plain (λ _. parts_type.the_row)) f.ended.kept.0 (λ κs x w. tt), tt)
+    (all_go 𝓛 0 f.ended.signature.params f.ended.kept ((λ κs x w. tt), tt))
     f.Key.name code.function (code.unfolded 𝓤 𝓛.H 𝓜 𝓡 wired)
     (λ κs. ((λ r. parts_lowers.lowered r ∷ []), tt)) (λ κs. (parts_lowers.val_is, tt)) (λ κs qs bounds a g are.
     let base = a.0.base in let d = a.0.bytes in
-    let vss : List Val × Unit {0} = (parts_lowers.lowered a.0 ∷ [], tt) in
     let Asked : Type 0 = LiesAtBlock a.0 in
-    let y : W.Ghost = ((κs, qs, bounds, a, vss), g) in
+    let y : W.Ghost = ((κs, qs, bounds, a, (parts_lowers.lowered a.0 ∷ [], tt)), g) in
     qed 𝓛 ((‵ ftrue ⊛ (‵ ((parts_type.the_row).own_val a.0 (parts_lowers.lowered a.0 ∷ [])) ⊛ ‵ ftrue)) ∷ raw (fact 𝓤 Asked) ∷ []) ∵
     move ! (1 ∷ []) $ heard ! Asked (λ asked. split ! $ drop ! $ split ! $
     bytes_of_parts ! a.0 (λ is. keep ! (0 ∷ []) $

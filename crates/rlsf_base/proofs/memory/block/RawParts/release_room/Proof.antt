@@ -1,6 +1,5 @@
 -- Shows that `release_room` returns the room of the bytes that it was given. Assumes `Logic`.
-use Rattle.std.proofs.Common.{◌≡◌, ℕ, ◌+◌, List, [], ◌∷◌, length, refl, sym, ap, ◌∙◌, arith}
-use mir.Val.{Val}
+use Rattle.std.proofs.Common.{◌≡◌, ℕ, ◌+◌, [], ◌∷◌, length, refl, sym, ap, ◌∙◌, arith}
 use base.Fml.{Fml, ftrue, froom}
 use contract.Monad.{fact}
 use types.Kit.{use1, ‵, raw, ◌⊛◌, ◌$◌, ◌∵◌, !, qed, move, keep, drop, split, join, frame, group, fsplit, fjoin, feq_i, flt_l, rewrite, suffices, done}
@@ -8,10 +7,8 @@ use types.Part.{whole, sub}
 use types.Run.{stop, fld, of_opd, returns, enter}
 use types.ByLocal.{alloc_all, pass_all, free_all, look_at, get_in, sets}
 use denote.RawPtr.{Ptr, in_a_block, ptr_val, rawptr_Lawful}
-use denote.Signature.{plain}
 use denote.Steps.{nothing, heard}
-use denote.Triple.Walked.{says, Stays, walk_of, stay_dropped, ends_at}
-use Rattle.core.proofs.alloc.Calls.{Goes-blank}
+use denote.Triple.Walked.{says, Stays, walk_of, ends_at}
 use Rattle.std.proofs.raw_atomic.Walks.{proved}
 use Rattle.rlsf_base.specs.Out.{kept_at}
 use Rattle.rlsf_base.specs.Changes.{IsOwn}
@@ -20,6 +17,7 @@ use Rattle.rlsf_base.proofs.RawBlock.Rows.{held-room}
 use Rattle.rlsf_base.proofs.RawBlock.Units.{ways-same, unit-all}
 use Rattle.rlsf_base.proofs.RawBlock.Parts.{bytes_of_parts}
 use Rattle.rlsf_base.proofs.RawBlock.Values.{base_typed}
+use Rattle.rlsf_base.proofs.RawBlock.Dropped.{all_dropped, all_go}
 use Rattle.rlsf_base.specs.contracts.memory.block.RawParts.release_room as f
 use Rattle.rlsf_base.proofs.memory.block.RawParts.release_room.Statement.{statement}
 use Rattle.rlsf_base.proofs.memory.block.RawParts.release_room.Code as code
@@ -28,21 +26,18 @@ use base.Logic.{never, id⊢}
 use Rattle.rlsf_base.proofs.memory.block.RawParts.TheLaws.{lowers as parts_lowers}
 use Rattle.rlsf_base.specs.contracts.memory.block.RawParts as parts_type
 
-abbrev stayed : Stays f.ended.signature.params f.ended.kept
-stayed = (stay_dropped (plain (λ _. parts_type.the_row)) f.ended.kept.0, tt)
-
 pub release_room_spec : {M : Type 1} → statement M
 release_room_spec 𝓤 𝓛 𝓜 𝓡 wired =
+    let stayed : Stays f.ended.signature.params f.ended.kept = all_dropped f.ended.signature.params f.ended.kept in
     let c = f.clauses 𝓛 𝓜.mem 𝓡.returns in let W = walk_of 𝓛 f.ended stayed c in
     proved 𝓛 f.ended stayed c 𝓜 𝓡
-    (Goes-blank 𝓛 0 (plain (λ _. parts_type.the_row)) f.ended.kept.0 (λ κs x w. tt), tt)
+    (all_go 𝓛 0 f.ended.signature.params f.ended.kept ((λ κs x w. tt), tt))
     f.Key.name code.function (code.unfolded 𝓤 𝓛.H 𝓜 𝓡 wired)
     (λ κs. ((λ r. parts_lowers.lowered r ∷ []), tt)) (λ κs. (parts_lowers.val_is, tt)) (λ κs qs bounds a g are.
     let base = a.0.base in let d = a.0.bytes in
-    let vss : List Val × Unit {0} = (parts_lowers.lowered a.0 ∷ [], tt) in
     let Asked : Type 0 = (d.at ≡ base.ptr) × (d.skip ≡ 0) × (length d.bytes ≡ a.0.len) × (d.units ≡ units_from a.0.start (length d.bytes)) in
     let Owned : Type 0 = IsOwn d.out 0 a.0.len in
-    let y : W.Ghost = ((κs, qs, bounds, a, vss), g) in
+    let y : W.Ghost = ((κs, qs, bounds, a, (parts_lowers.lowered a.0 ∷ [], tt)), g) in
     qed 𝓛 ((‵ ftrue ⊛ (‵ ((parts_type.the_row).own_val a.0 (parts_lowers.lowered a.0 ∷ [])) ⊛ ‵ ftrue)) ∷ (raw (fact 𝓤 Asked) ⊛ raw (fact 𝓤 Owned)) ∷ [])
     ∵
     move ! (1 ∷ []) $ split ! $ heard ! Asked (λ asked. heard ! Owned (λ own. split ! $ drop ! $ split ! $

@@ -26,23 +26,20 @@ use Rattle.rlsf_base.specs.contracts.memory.ledger.Ticket.redeem_in as f
 use Rattle.rlsf_base.proofs.memory.ledger.Ticket.redeem_in.Statement.{statement}
 use Rattle.rlsf_base.proofs.memory.ledger.Ticket.redeem_in.Code as code
 
-abbrev stayed : Stays f.ended.signature.params f.ended.kept
-stayed = (stay_dropped (plain (λ _. ticket.the_row)) f.ended.kept.0, (stay_ref (0 ∷ []) tt (plain (λ _. ledger.the_row)), tt))
-
 pub redeem_in_spec : {M : Type 1} → statement M
 redeem_in_spec 𝓤 𝓛 𝓜 𝓡 wired =
+    let stayed : Stays f.ended.signature.params f.ended.kept = (stay_dropped _ f.ended.kept.0, (stay_ref (0 ∷ []) tt (plain (λ _. ledger.the_row)), tt)) in
     let c = f.clauses 𝓛 𝓜.mem 𝓡.returns in let W = walk_of 𝓛 f.ended stayed c in let 𝓣 = tables 𝓤 𝓛.H 𝓜 𝓡 𝓡.env in
     proved 𝓛 f.ended stayed c 𝓜 𝓡
     (Goes-blank 𝓛 1 (plain (λ _. ticket.the_row)) f.ended.kept.0 (λ κs x w. tt), (Goes-ref 𝓛 1 0 tt (plain (λ _. ledger.the_row)), tt))
     f.Key.name code.function (code.unfolded 𝓤 𝓛.H 𝓜 𝓡 wired)
     (λ κs. (ticket_vals, (mut_vals, tt))) (λ κs. (ticket_Tells, (mut_Tells (named 0) κs.0 ledger.the_row, tt))) (λ κs qs bounds a g are.
     let rb = a.1.0.ref_ptr.0 in let ro = a.1.0.ref_ptr.1 in let d = a.1.0.now in let t = a.0 in
-    let vss : List Val × (List Val × Unit {0}) = (mark_val ∷ [], (mut_vals a.1.0, tt)) in
     let v : Extent = extent t.addr t.len t.align in
     let Asked : Type 0 = t.name ≡ d.name in
-    let y : W.Ghost = ((κs, qs, bounds, a, vss), g) in
+    let y : W.Ghost = ((κs, qs, bounds, a, (mark_val ∷ [], (mut_vals a.1.0, tt))), g) in
     let new : (ledger.the_row).Denot = record { mark = d.mark; name = d.name; entries = set d.entries t.key (entry_of v false) } in
-    qed 𝓛 (((‵ (flft κs.0 qs.0) ⊛ ‵ ftrue) ⊛ ‵ (owns (types_at f.signature.params κs) a vss)) ∷ raw (fact 𝓤 Asked) ∷ []) ∵
+    qed 𝓛 (((‵ (flft κs.0 qs.0) ⊛ ‵ ftrue) ⊛ ‵ (owns (types_at f.signature.params κs) a y.0.4)) ∷ raw (fact 𝓤 Asked) ∷ []) ∵
     move ! (1 ∷ []) $ heard ! Asked
     (λ asked. split ! $ split ! $ move ! (2 ∷ []) $ fsplit ! $ move ! (1 ∷ []) $ fsplit ! $ move ! (2 ∷ []) $ fsplit ! $ keep ! (2 ∷ 4 ∷ 1 ∷ []) $
     -- [self; its token; the ticket]

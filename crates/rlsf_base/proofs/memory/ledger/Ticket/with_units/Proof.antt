@@ -1,7 +1,6 @@
 -- Shows that `with_units` puts the room of the units behind the kept bytes and the ticket together. Assumes `Logic`.
-use Rattle.std.proofs.Common.{◌≡◌, ℕ, ◌+◌, ◌-◌, ◌*◌, ◌/◌, ◌≤◌, List, [], ◌∷◌, refl, sym, ◌∙◌, arith, w64}
+use Rattle.std.proofs.Common.{◌≡◌, ℕ, ◌+◌, ◌-◌, ◌*◌, ◌/◌, ◌≤◌, [], ◌∷◌, refl, sym, ◌∙◌, arith, w64}
 use base.Fraction.{full_share}
-use mir.Val.{Val}
 use base.Logic.{never, id⊢}
 use base.Fml.{ftrue, fat, froom}
 use contract.Monad.{fact}
@@ -14,11 +13,9 @@ use denote.RattleType.{owns}
 use denote.Param.{layout}
 use denote.RawPtr.{Ptr, block_ptr, in_a_block}
 use denote.Plain.{uint_vals, uint_Tells}
-use denote.Builtin.{usize}
-use denote.Signature.{plain, types_at}
+use denote.Signature.{types_at}
 use denote.Steps.{nothing, heard}
-use denote.Triple.Walked.{Stays, stay_dropped, walk_of, Goes-dropped, ends_at}
-use Rattle.core.proofs.alloc.Calls.{Goes-blank}
+use denote.Triple.Walked.{Stays, walk_of, ends_at}
 use Rattle.core.proofs.mem.Facts.{says_two}
 use Rattle.core.proofs.alloc.Shapes.{after}
 use Rattle.std.proofs.raw_atomic.Walks.{proved}
@@ -31,57 +28,29 @@ use Rattle.rlsf_base.proofs.RawBlock.OwnerValues.{ticket_vals, ticket_Tells, uni
 use Rattle.rlsf_base.proofs.RawBlock.Parts.{placed_in_block}
 use Rattle.rlsf_base.proofs.RawBlock.PointerValues.{spot_val, spot_own, spot_made, view_val, view_fits}
 use Rattle.rlsf_base.proofs.RawBlock.Values.{mark_val}
+use Rattle.rlsf_base.proofs.RawBlock.Dropped.{all_dropped, all_go}
 use Rattle.rlsf_base.specs.contracts.memory.view.View as view_type
-use Rattle.rlsf_base.specs.contracts.memory.block.Units as units_type
-use Rattle.rlsf_base.specs.contracts.memory.ledger.Ticket as ticket_type
 use Rattle.rlsf_base.specs.contracts.memory.unit_payload.UnitPayload as payload_type
 use Rattle.rlsf_base.specs.contracts.memory.ledger.Ticket.with_units as f
 use Rattle.rlsf_base.proofs.memory.ledger.Ticket.with_units.Statement.{statement}
 use Rattle.rlsf_base.proofs.memory.ledger.Ticket.with_units.Code as code
 
-abbrev stayed : Stays f.ended.signature.params f.ended.kept
-stayed = (
-  stay_dropped (plain (λ _. ticket_type.the_row)) f.ended.kept.0,
-  (
-    stay_dropped (plain (λ _. view_type.the_row)) f.ended.kept.1.0,
-    (
-      stay_dropped (plain (λ _. usize)) f.ended.kept.1.1.0,
-      (
-        stay_dropped (plain (λ _. usize)) f.ended.kept.1.1.1.0,
-        (stay_dropped (plain (λ _. units_type.the_row)) f.ended.kept.1.1.1.1.0, tt),
-      ),
-    ),
-  ),
-)
-
 pub with_units_spec : {M : Type 1} → statement M
 with_units_spec 𝓤 𝓛 𝓜 𝓡 wired =
+    let stayed : Stays f.ended.signature.params f.ended.kept = all_dropped f.ended.signature.params f.ended.kept in
     let c = f.clauses 𝓛 𝓜.mem 𝓡.returns in let W = walk_of 𝓛 f.ended stayed c in let 𝓣 = tables 𝓤 𝓛.H 𝓜 𝓡 𝓡.env in
-    proved 𝓛 f.ended stayed c 𝓜 𝓡 (
-      Goes-blank 𝓛 0 (plain (λ _. ticket_type.the_row)) f.ended.kept.0 (λ κs x w. tt),
-      (
-        Goes-dropped 𝓛 0 (plain (λ _. view_type.the_row)) f.ended.kept.1.0 (λ κs x w. refl),
-        (
-          Goes-dropped 𝓛 0 (plain (λ _. usize)) f.ended.kept.1.1.0 (λ κs x w. refl),
-          (
-            Goes-dropped 𝓛 0 (plain (λ _. usize)) f.ended.kept.1.1.1.0 (λ κs x w. refl),
-            (Goes-blank 𝓛 0 (plain (λ _. units_type.the_row)) f.ended.kept.1.1.1.1.0 (λ κs x w. tt), tt),
-          ),
-        ),
-      ),
-    )
+    proved 𝓛 f.ended stayed c 𝓜 𝓡
+    (all_go 𝓛 0 f.ended.signature.params f.ended.kept ((λ κs x w. tt), ((λ κs x w. tt), ((λ κs x w. tt), ((λ κs x w. tt), ((λ κs x w. tt), tt))))))
     f.Key.name code.function (code.unfolded 𝓤 𝓛.H 𝓜 𝓡 wired)
     (λ κs. (ticket_vals, (view_vals, (uint_vals w64, (uint_vals w64, (units_vals, tt))))))
     (λ κs. (ticket_Tells, (view_Tells, (uint_Tells w64, (uint_Tells w64, (units_Tells, tt)))))) (λ κs qs bounds a g are.
     let t = a.0 in let view = a.1.0 in let place = a.1.1.0 in let len = a.1.1.1.0 in let run = a.1.1.1.1.0 in let home : Home = home_from view run.of in
     let kept : ℕ = len - run.count * 16 in
-    let vss : List Val × (List Val × (List Val × (List Val × (List Val × Unit {0})))) =
-    (mark_val ∷ [], (view_vals view, (uint_vals w64 place, (uint_vals w64 len, (mark_val ∷ [], tt))))) in
     let Run : Type 0 = (run.at ≡ view.base.ptr) × (run.first * 16 + run.count * 16 ≡ place + len) × (run.count * 16 ≤ len) in
     let Shown : Type 0 = (t.len ≡ len) × (t.align ≡ 16) × (place ≡ place_in view t.addr) in
     let Lies : Type 0 = IsUnitPointer home (pointer_to view t.addr) t.addr t.len in
-    let y : W.Ghost = ((κs, qs, bounds, a, vss), g) in
-    qed 𝓛 ((‵ ftrue ⊛ ‵ (owns (types_at f.signature.params κs) a vss)) ∷ (raw (fact 𝓤 Run) ⊛ raw (fact 𝓤 Shown) ⊛ raw (fact 𝓤 Lies)) ∷ []) ∵
+    let y : W.Ghost = ((κs, qs, bounds, a, (mark_val ∷ [], (view_vals view, (uint_vals w64 place, (uint_vals w64 len, (mark_val ∷ [], tt)))))), g) in
+    qed 𝓛 ((‵ ftrue ⊛ ‵ (owns (types_at f.signature.params κs) a y.0.4)) ∷ (raw (fact 𝓤 Run) ⊛ raw (fact 𝓤 Shown) ⊛ raw (fact 𝓤 Lies)) ∷ []) ∵
     move ! (1 ∷ []) $ split ! $ heard ! Run (λ is. split ! $ heard ! Shown (λ shown. heard ! Lies (λ lies.
     split ! $ drop ! $ fsplit ! $ fsplit ! $ drop ! $ move ! (1 ∷ []) $ fsplit ! $ drop ! $ fsplit ! $ drop ! $ fsplit ! $ drop ! $ fsplit ! $ fsplit ! $ keep ! (1 ∷ 3 ∷ []) $
     -- [the units' room; the ticket]

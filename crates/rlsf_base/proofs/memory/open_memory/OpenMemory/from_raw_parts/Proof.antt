@@ -2,18 +2,16 @@
 use Rattle.std.proofs.Common.{◌≡◌, ◌^◌, ◌<◌, List, [], ◌∷◌, length, refl, ◌∙◌, ap, arith, w64}
 use base.Logic.{id⊢}
 use base.Fml.{ftrue}
-use contract.Monad.{fact, fact_i}
+use contract.Monad.{fact}
 use contract.Running.{tables}
-use types.Kit.{‵, raw, ◌⊛◌, some, later, ◌$◌, ◌∵◌, !, qed, move, keep, drop, use0, use1, use2, split, join, fsplit, pick, await, suffices, group, done}
+use types.Kit.{‵, raw, ◌⊛◌, ◌$◌, ◌∵◌, !, qed, move, keep, drop, use1, use2, split, join, fsplit, suffices, group, done}
 use types.Run.{of_opd, no_more, and_then, returns, enter}
 use types.ByLocal.{alloc_all, pass_all, free_all, look_at, get, sets, lands_as}
-use base.Logic.{emp}
 use denote.Builtin.{usize}
-use denote.Laws.{Is, shows}
 use denote.RattleType.{owns}
 use denote.Plain.{uint_vals, uint_Tells, uint_Makes}
 use denote.RawPtr.{RawPtr, rawptr_vals, rawptr_Tells, rawptr_Makes, rawptr_Lawful}
-use denote.Steps.{nothing, owned, heard, peeks}
+use denote.Steps.{nothing, owned, heard}
 use denote.Triple.Call.{calls_at}
 use denote.Triple.Clauses.{lasts}
 use denote.Triple.Spec.{triple_of}
@@ -31,6 +29,7 @@ use Rattle.rlsf_base.specs.Steps.Ownership.{room_at, units_from}
 use Rattle.rlsf_base.proofs.RawBlock.Fills.{all_own, none_own}
 use Rattle.rlsf_base.specs.contracts.memory.open_memory.OpenMemory as memory
 use Rattle.rlsf_base.proofs.memory.open_memory.OpenMemory.TheLaws as memory_laws
+use Rattle.rlsf_base.proofs.RawBlock.Walks.{hears, told}
 use Rattle.rlsf_base.specs.contracts.memory.block.Bytes as owner
 use Rattle.rlsf_base.proofs.memory.block.Bytes.TheLaws as owner_laws
 use Rattle.rlsf_base.specs.contracts.memory.open_memory.OpenMemory.from_raw_parts as f
@@ -41,11 +40,9 @@ use Rattle.rlsf_base.proofs.memory.block.adopt_room.Met.{met as adopt_met}
 use Rattle.rlsf_base.specs.contracts.memory.open_memory.OpenMemory.over as k
 use Rattle.rlsf_base.proofs.memory.open_memory.OpenMemory.over.Met.{met as over_met}
 
-abbrev stayed : Stays f.ended.signature.params f.ended.kept
-stayed = all_dropped f.ended.signature.params f.ended.kept
-
 pub from_raw_parts_spec : {M : Type 1} → statement M
 from_raw_parts_spec 𝓤 𝓛 𝓜 𝓡 wired =
+    let stayed : Stays f.ended.signature.params f.ended.kept = all_dropped f.ended.signature.params f.ended.kept in
     let c = f.clauses 𝓛 𝓜.mem 𝓡.returns in let W = walk_of 𝓛 f.ended stayed c in
     proved 𝓛 f.ended stayed c 𝓜 𝓡 (all_go 𝓛 0 f.ended.signature.params f.ended.kept ((λ κs x f. tt), ((λ κs x f. tt), ((λ κs x f. tt), ((λ κs x f. tt), tt)))))
     f.Key.name code.function (code.unfolded 𝓤 𝓛.H 𝓜 𝓡 wired)
@@ -62,51 +59,35 @@ from_raw_parts_spec 𝓤 𝓛 𝓜 𝓡 wired =
     let G = triple_of 𝓛 g.signature (g.spec 𝓛 𝓜.mem 𝓡.returns) in
     let z : G.Ghost = ((tt, tt, tt, (p, (start, (len, tt))), (rawptr_vals p, (uint_vals w64 start, (uint_vals w64 len, tt)))), tt) in let small : len < 2 ^ 63 =
     omega (arith, asked.3) in
-    use0 𝓛 (raw (fact 𝓤 (len < 2 ^ 63))) (fact_i 𝓤 (len < 2 ^ 63) (emp 𝓤) small) $ move ! (2 ∷ 0 ∷ []) $ join ! $
+    told ! small $ move ! (2 ∷ 0 ∷ []) $ join ! $
     nothing ! $ owned ! usize _ (uint_Makes 𝓛 w64) len _ (refl, are.1.1.1.0.1) $ join ! $ owned ! usize _ (uint_Makes 𝓛 w64) start _ (refl, are.1.1.0.1) $ join ! $ owned !
     RawPtr _ (rawptr_Makes 𝓛) p _ refl $ join ! $ nothing ! $ join ! $ join ! $ use1 𝓛 (raw (G.pre z)) (id⊢ 𝓤 _) $
     calls_at ! (framed 𝓤 𝓛.H 𝓜 (tables 𝓤 𝓛.H 𝓜 𝓡 𝓡.env)) G (adopt_met 𝓤 𝓛 𝓜 𝓡 (code.calls-rlsf_base::memory::block::adopt_room 𝓡.env wired))
     z
     (and_then ! (get ! refl) (and_then ! (get ! refl) (and_then ! (get ! refl) (no_more !)))) (λ v.
-    use1 𝓛 (later (some (λ (d : (owner.the_row).Denot). (‵ ftrue ⊛ ‵ ((owner.the_row).own_val d (v ∷ []))) ⊛
-    some (λ (ws : Unit {0} × (Unit {0} × (Unit {0} × Unit {0}))). ‵ (lasts g.ended z.0.0 z.0.3 ws) ⊛ raw
-    (fact 𝓤 ((d.at ≡ p) × (d.skip ≡ 0) × (length d.bytes ≡ len) × (d.out ≡ came_raw 0 len no_changes) × (d.units ≡ units_from start len))))))) (id⊢ 𝓤 _) $
-    await ! tt $ pick ! (λ d. split ! $ split ! $ drop ! $
-    peeks ! owner.the_row (Is owner.the_row) (shows 𝓛 owner.the_row) d (v ∷ []) (λ is. lands_as ! refl refl ((owner_laws.the_row_laws.lawful 𝓛).typed d _ is).0 $
-    move ! (1 ∷ []) $ pick ! (λ ws. split ! $ drop ! $ heard ! _ (λ did.
+    hears ! tt owner.the_row v (lasts g.ended z.0.0 z.0.3)
+    (λ d. raw (fact 𝓤 ((d.at ≡ p) × (d.skip ≡ 0) × (length d.bytes ≡ len) × (d.out ≡ came_raw 0 len no_changes) × (d.units ≡ units_from start len)))) (id⊢ 𝓤 _)
+    (λ d is. heard ! _ (λ did. lands_as ! refl refl ((owner_laws.the_row_laws.lawful 𝓛).typed d _ is).0 $
     -- [the owner of the bytes; the heap's handle]
     sets ! (of_opd ! (get ! refl)) refl ((owner_laws.the_row_laws.lawful 𝓛).typed d _ is).0 $
     let K = triple_of 𝓛 k.signature (k.spec 𝓛 𝓜.mem 𝓡.returns) in
     let m : K.Ghost = ((tt, tt, tt, (h, (p, (start, (len, (d, tt))))), (heap_val ∷ [], (rawptr_vals p, (uint_vals w64 start, (uint_vals w64 len, (v ∷ [], tt)))))), tt) in
     nothing ! $ move ! (1 ∷ 0 ∷ []) $ join ! $ owned ! usize _ (uint_Makes 𝓛 w64) len _ (refl, are.1.1.1.0.1) $ join ! $ owned ! usize _ (uint_Makes 𝓛 w64) start _
     (refl, are.1.1.0.1) $ join ! $ owned ! RawPtr _ (rawptr_Makes 𝓛) p _ refl $ join ! $ move ! (1 ∷ 0 ∷ []) $ join ! $ nothing ! $ join ! $
-    let Owed1 : Type 0 = (d.at ≡ p) × (d.skip ≡ 0) × (length d.bytes ≡ len) × (d.units ≡ units_from start len) in
-    let Owed2 : Type 0 = CanStart start len in
-    use0 𝓛 (raw (fact 𝓤 Owed2)) (fact_i 𝓤 Owed2 (emp 𝓤) asked) $
-    use0 𝓛 (raw (fact 𝓤 Owed1)) (fact_i 𝓤 Owed1 (emp 𝓤) (did.0, did.1, did.2, did.4)) $ join ! $ move ! (1 ∷ 0 ∷ []) $
+    let Owed : Type 0 = (d.at ≡ p) × (d.skip ≡ 0) × (length d.bytes ≡ len) × (d.units ≡ units_from start len) in
+    told ! asked $ told ! {φ = Owed} (did.0, did.1, did.2, did.4) $ join ! $ move ! (1 ∷ 0 ∷ []) $
     use2 𝓛 (raw (K.pre m)) (id⊢ 𝓤 _) $
     calls_at ! (framed 𝓤 𝓛.H 𝓜 (tables 𝓤 𝓛.H 𝓜 𝓡 𝓡.env)) K
     (over_met 𝓤 𝓛 𝓜 𝓡 (code.calls-rlsf_base::memory::open_memory::OpenMemory::over 𝓡.env wired)) m
     (and_then ! (get ! refl) (and_then ! (get ! refl) (and_then ! (get ! refl) (and_then ! (get ! refl) (and_then ! (get ! refl) (no_more !)))))) (λ u.
-    use1 𝓛 (later (some (λ (r : (memory.the_row).Denot). (‵ ftrue ⊛ ‵ ((memory.the_row).own_val r (u ∷ []))) ⊛
-    some (λ (ws' : Unit {0} × (Unit {0} × (Unit {0} × (Unit {0} × (Unit {0} × Unit {0}))))). ‵ (lasts k.ended m.0.0 m.0.3 ws') ⊛
-    (raw (fact 𝓤 (r.start ≡ start)) ⊛
-    (raw (fact 𝓤 (r.bytes ≡ d.bytes)) ⊛
+    hears ! tt memory.the_row u (lasts k.ended m.0.0 m.0.3) (λ r. raw (fact 𝓤 (r.start ≡ start)) ⊛ (raw (fact 𝓤 (r.bytes ≡ d.bytes)) ⊛
     (raw (fact 𝓤 ((r.touches ≡ 0) × (r.copied ≡ 0))) ⊛
-    (raw (fact 𝓤 ((r.view.base.ptr ≡ p) × (place_in r.view start ≡ 0))) ⊛ raw (fact 𝓤 (r.out ≡ d.out)))))))))) (id⊢ 𝓤 _) $
-    await ! tt $ pick ! (λ r. split ! $ split ! $ drop ! $
-    peeks ! memory.the_row (Is memory.the_row) (shows 𝓛 memory.the_row) r (u ∷ [])
-    (λ is_memory. lands_as ! refl refl ((memory_laws.the_row_laws.lawful 𝓛).typed r _ is_memory).0 $
-    move ! (1 ∷ []) $ pick !
-    (λ ws'. split ! $ drop ! $ split ! $ heard ! _
-    (λ its_start. split ! $ heard ! _ (λ its_bytes. split ! $ heard ! _ (λ its_counts. split ! $ heard ! _ (λ its_block. heard ! _ (λ its_out.
+    (raw (fact 𝓤 ((r.view.base.ptr ≡ p) × (place_in r.view start ≡ 0))) ⊛ raw (fact 𝓤 (r.out ≡ d.out)))))) (id⊢ 𝓤 _) (λ r is_memory.
+    split ! $ heard ! _ (λ its_start. split ! $ heard ! _ (λ its_bytes. split ! $ heard ! _ (λ its_counts. split ! $ heard ! _ (λ its_block. heard ! _ (λ its_out.
+    lands_as ! refl refl ((memory_laws.the_row_laws.lawful 𝓛).typed r _ is_memory).0 $
     returns ! (look_at ! 0 refl) $ free_all ! refl $
     suffices ! _ (ends_at 𝓛 f.ended stayed c y u r (tt, (tt, (tt, (tt, tt)))) (tt, (tt, (tt, (tt, tt))))) $
     nothing ! $ nothing ! $ join ! $ nothing ! $ join ! $ nothing ! $ join ! $ nothing ! $ join ! $ nothing ! $ group ! 3 $
     let own : IsAllOwn r.out = λ k. ap (λ cs. is_own (kept_at cs k)) (its_out ∙ did.3) ∙ all_own no_changes 0 len none_own k in
-    use0 𝓛 (raw (fact 𝓤 (IsAllOwn r.out))) (fact_i 𝓤 (IsAllOwn r.out) (emp 𝓤) own) $
-    use0 𝓛 (raw (fact 𝓤 ((r.view.base.ptr ≡ p) × (place_in r.view start ≡ 0))))
-    (fact_i 𝓤 ((r.view.base.ptr ≡ p) × (place_in r.view start ≡ 0)) (emp 𝓤) its_block) $ join ! $
-    use0 𝓛 (raw (fact 𝓤 ((r.touches ≡ 0) × (r.copied ≡ 0)))) (fact_i 𝓤 ((r.touches ≡ 0) × (r.copied ≡ 0)) (emp 𝓤) its_counts) $ join ! $
-    use0 𝓛 (raw (fact 𝓤 (length r.bytes ≡ len))) (fact_i 𝓤 (length r.bytes ≡ len) (emp 𝓤) (ap length its_bytes ∙ did.2)) $ join ! $
-    use0 𝓛 (raw (fact 𝓤 (r.start ≡ start))) (fact_i 𝓤 (r.start ≡ start) (emp 𝓤) its_start) $ join ! $ move ! (1 ∷ 0 ∷ []) $ done !)))))))))))))))))
+    told ! own $ told ! its_block $ join ! $ told ! its_counts $ join ! $ told ! (ap length its_bytes ∙ did.2) $ join ! $ told ! its_start $ join ! $
+    move ! (1 ∷ 0 ∷ []) $ done !)))))))))))))

@@ -1,6 +1,5 @@
 -- Shows that `into_raw` hands out what the part owns. Assumes `Logic`.
 use Rattle.std.proofs.Common.{◌≡◌, ℕ, List, [], ◌∷◌, ◌++◌, arith, refl, sym, ◌∙◌, ap}
-use mir.Syntax.{Fn}
 use mir.Val.{Val, vunit}
 use base.Logic.{SProp, id⊢}
 use base.Fml.{ftrue}
@@ -13,12 +12,11 @@ use types.Run.{enter, of_opd, no_more, and_then, returns, unit_lit}
 use types.ByLocal.{alloc_all, pass_all, free_all, look_at, get, sets, lands_as}
 use denote.Builtin.{unit}
 use denote.Exit.{rest, yes}
-use denote.Laws.{Is, shows}
 use denote.Param.{layout}
 use denote.RattleType.{owns}
 use denote.RawPtr.{Ptr}
 use denote.Signature.{plain, types_at}
-use denote.Steps.{nothing, heard, peeks, only}
+use denote.Steps.{nothing, heard, only}
 use denote.Triple.Call.{calls_at}
 use denote.Triple.Clauses.{lasts, Lasts}
 use denote.Triple.Entry.{alive}
@@ -33,6 +31,7 @@ use Rattle.rlsf_base.specs.OpenSpace.{Home}
 use Rattle.rlsf_base.specs.Piece.{HasPartBytes, first_place}
 use Rattle.rlsf_base.specs.Steps.Ownership.{bytes_own, units_in}
 use Rattle.rlsf_base.proofs.Pieces.{can_come}
+use Rattle.rlsf_base.proofs.RawBlock.Walks.{hears}
 use Rattle.rlsf_base.specs.contracts.memory.block.Bytes as owner
 use Rattle.rlsf_base.proofs.memory.block.Bytes.TheLaws as owner_laws
 use Rattle.rlsf_base.specs.contracts.memory.block.Bytes.into_raw as k
@@ -47,46 +46,39 @@ use Rattle.rlsf_base.proofs.memory.part.Part.into_raw.Code as code
 
 pub into_raw_spec : {M : Type 1} → statement M
 into_raw_spec 𝓤 𝓛 𝓜 𝓡 wired =
-    let H = 𝓛.H in
-    let En₀ = f.ended in
     let c = f.clauses 𝓛 𝓜.mem 𝓡.returns in
-    let fn : Fn = code.function in
     let P = part.the_row in
-    let stays : Stays En₀.signature.params En₀.kept = (stay_dropped (plain (λ _. P)) En₀.kept.0, tt) in
-    let C = (tables 𝓤 H 𝓜 𝓡 𝓡.env).C in
-    let Λ = (tables 𝓤 H 𝓜 𝓡 𝓡.env).Λ in
-    proved_at 𝓛 En₀ stays c 𝓜 𝓡 (Goes-blank 𝓛 0 (plain (λ _. P)) En₀.kept.0 (λ κs x w. tt), tt) f.Key.name fn (code.unfolded 𝓤 H 𝓜 𝓡 wired) (λ z are.
-    let Post : Val → SProp 𝓤 = (walk_of 𝓛 En₀ stays c).post z in
+    let stays : Stays f.ended.signature.params f.ended.kept = (stay_dropped (plain (λ _. P)) f.ended.kept.0, tt) in
+    let C = (tables 𝓤 𝓛.H 𝓜 𝓡 𝓡.env).C in
+    let Λ = (tables 𝓤 𝓛.H 𝓜 𝓡 𝓡.env).Λ in
+    proved_at 𝓛 f.ended stays c 𝓜 𝓡 (Goes-blank 𝓛 0 (plain (λ _. P)) f.ended.kept.0 (λ κs x w. tt), tt) f.Key.name code.function (code.unfolded 𝓤 𝓛.H 𝓜 𝓡 wired) (λ z are.
+    let Post : Val → SProp 𝓤 = (walk_of 𝓛 f.ended stays c).post z in
     let a = z.0.3 in
     let vss = z.0.4 in
     let p = a.0 in
     let got = one (layout P) vss.0 (((part_laws.the_row_laws).lawful 𝓛).typed p vss.0 are.0) in
     let w : Val = got.0 in
     let good = got.2 in
-    qed 𝓛 ((raw (alive 𝓛 En₀.signature z.0.0 z.0.1) ⊛ ‵ (owns (types_at En₀.signature.params z.0.0) a vss)) ∷ ‵ ftrue ∷ []) ∵ move ! (1 ∷ []) $ drop ! $
+    qed 𝓛 ((raw (alive 𝓛 f.ended.signature z.0.0 z.0.1) ⊛ ‵ (owns (types_at f.ended.signature.params z.0.0) a vss)) ∷ ‵ ftrue ∷ []) ∵ move ! (1 ∷ []) $ drop ! $
     split ! $ move ! (1 ∷ []) $
     fsplit ! $ move ! (1 ∷ []) $ drop ! $ rewrite ! 0 (λ (us : List Val). ‵ (P.own_val p us)) got.1 refl $
-    regoal ! (λ (us : List Val). prop (WpFn 𝓤 H C Λ fn us Post)) (λ i. got.1 i ++ []) refl $
-    enter ! C Λ fn (w ∷ []) Post $
+    regoal ! (λ (us : List Val). prop (WpFn 𝓤 𝓛.H C Λ code.function us Post)) (λ i. got.1 i ++ []) refl $
+    enter ! C Λ code.function (w ∷ []) Post $
     alloc_all ! (λ l. pass_all ! refl (good, tt) $
     sets ! (of_opd ! (get ! refl)) refl good $
     -- [the part; what is alive; the locals]
     let G = triple_of 𝓛 g.signature (g.spec 𝓛 𝓜.mem 𝓡.returns) in
     let y : G.Ghost = ((tt, tt, tt, (p, tt), (w ∷ [], tt)), tt) in
     nothing ! $ move ! (1 ∷ 0 ∷ []) $ join ! $ nothing ! $ join ! $ nothing ! $ move ! (1 ∷ 0 ∷ []) $ use2 𝓛 (raw (G.pre y)) (id⊢ 𝓤 _) $
-    calls_at ! (framed 𝓤 H 𝓜 (tables 𝓤 H 𝓜 𝓡 𝓡.env)) G (bytes_met 𝓤 𝓛 𝓜 𝓡 (code.calls-rlsf_base::memory::part::Part::into_bytes 𝓡.env wired)) y
+    calls_at ! (framed 𝓤 𝓛.H 𝓜 (tables 𝓤 𝓛.H 𝓜 𝓡 𝓡.env)) G (bytes_met 𝓤 𝓛 𝓜 𝓡 (code.calls-rlsf_base::memory::part::Part::into_bytes 𝓡.env wired)) y
     (and_then ! (get ! refl) (no_more !)) (λ u.
-    use1 𝓛 (later (some (λ (d : (owner.the_row).Denot). (‵ ftrue ⊛ ‵ ((owner.the_row).own_val d (u ∷ []))) ⊛
-    some (λ (ws : Lasts g.ended tt (p, tt)). ‵ (lasts g.ended y.0.0 y.0.3 ws) ⊛ raw (fact 𝓤 (HasPartBytes p d)))))) (id⊢ 𝓤 _) $
-    await ! tt $ pick ! (λ d. split ! $ split ! $ drop ! $
-    peeks ! owner.the_row (Is owner.the_row) (shows 𝓛 owner.the_row) d (u ∷ [])
-    (λ is. let typed = ((owner_laws.the_row_laws.lawful 𝓛).typed d _ is).0 in lands_as ! refl refl typed $
-    move ! (1 ∷ []) $ pick ! (λ ws. split ! $ drop ! $ heard ! _ (λ has.
+    hears ! tt owner.the_row u (lasts g.ended y.0.0 y.0.3) (λ d. raw (fact 𝓤 (HasPartBytes p d))) (id⊢ 𝓤 _) (λ d is. heard ! _ (λ has.
+    let typed = ((owner_laws.the_row_laws.lawful 𝓛).typed d _ is).0 in lands_as ! refl refl typed $
     -- [the owner; nothing; the locals]
     let K = triple_of 𝓛 k.signature (k.spec 𝓛 𝓜.mem 𝓡.returns) in
     let x : K.Ghost = ((tt, tt, tt, (d, tt), (u ∷ [], tt)), tt) in
     nothing ! $ move ! (1 ∷ 0 ∷ []) $ join ! $ nothing ! $ join ! $ nothing ! $ move ! (1 ∷ 0 ∷ []) $ use2 𝓛 (raw (K.pre x)) (id⊢ 𝓤 _) $
-    calls_at ! (framed 𝓤 H 𝓜 (tables 𝓤 H 𝓜 𝓡 𝓡.env)) K (raw_met 𝓤 𝓛 𝓜 𝓡 (code.calls-rlsf_base::memory::block::Bytes::into_raw 𝓡.env wired)) x
+    calls_at ! (framed 𝓤 𝓛.H 𝓜 (tables 𝓤 𝓛.H 𝓜 𝓡 𝓡.env)) K (raw_met 𝓤 𝓛 𝓜 𝓡 (code.calls-rlsf_base::memory::block::Bytes::into_raw 𝓡.env wired)) x
     (and_then ! (get ! refl) (no_more !)) (λ v.
     use1 𝓛 (later (some (λ (q : Unit {0}). (‵ ftrue ⊛ ‵ (unit.own_val q (v ∷ []))) ⊛
     some (λ (ws' : Lasts k.ended tt (d, tt)). ‵ (lasts k.ended x.0.0 x.0.3 ws') ⊛ ‵ (bytes_own d.at d.skip d.bytes d.out d.units))))) (id⊢ 𝓤 _) $
@@ -99,6 +91,6 @@ into_raw_spec 𝓤 𝓛 𝓜 𝓡 wired =
     (λ i. (sym has.0.place.0 i, has.0.place.1 i, has.2 i, has.3 i, units i)) refl $
     sets ! (of_opd ! (unit_lit !)) refl (tt, tt) $
     returns ! (look_at ! 0 refl) $ free_all ! refl $ keep ! (0 ∷ []) $
-    suffices ! _ (ends_at 𝓛 En₀ stays c z vunit tt (rest (P.exit yes) p, tt) (tt, tt)) $
+    suffices ! _ (ends_at 𝓛 f.ended stays c z vunit tt (rest (P.exit yes) p, tt) (tt, tt)) $
     feq_i ! (List Val) (vunit ∷ []) (vunit ∷ []) refl $ nothing ! $ nothing ! $ join ! $ nothing ! $ group ! 3 $ frame ! $ says ! (can_come p d has.0 has.1 has.2 has.3) $
-    done !)))))))))))
+    done !)))))))))

@@ -1,6 +1,5 @@
 -- Shows that `into_thin_bytes` owns what the part owned. Assumes `Logic`.
 use Rattle.std.proofs.Common.{List, [], ◌∷◌, ◌++◌, refl, ap}
-use mir.Syntax.{Fn}
 use mir.Val.{Val}
 use base.Logic.{SProp, id⊢}
 use base.Fml.{ftrue}
@@ -41,33 +40,30 @@ use Rattle.rlsf_base.proofs.memory.part.Part.into_thin_bytes.Code as code
 
 pub into_thin_bytes_spec : {M : Type 1} → statement M
 into_thin_bytes_spec 𝓤 𝓛 𝓜 𝓡 wired =
-    let H = 𝓛.H in
-    let En₀ = f.ended in
     let c = f.clauses 𝓛 𝓜.mem 𝓡.returns in
-    let fn : Fn = code.function in
     let P = part.the_row in let B = bytes_type.the_row in
-    let stays : Stays En₀.signature.params En₀.kept = (stay_dropped (plain (λ _. P)) En₀.kept.0, tt) in
-    let C = (tables 𝓤 H 𝓜 𝓡 𝓡.env).C in
-    let Λ = (tables 𝓤 H 𝓜 𝓡 𝓡.env).Λ in
-    proved_at 𝓛 En₀ stays c 𝓜 𝓡 (Goes-blank 𝓛 0 (plain (λ _. P)) En₀.kept.0 (λ κs x w. tt), tt) f.Key.name fn (code.unfolded 𝓤 H 𝓜 𝓡 wired) (λ z are.
-    let Post : Val → SProp 𝓤 = (walk_of 𝓛 En₀ stays c).post z in
+    let stays : Stays f.ended.signature.params f.ended.kept = (stay_dropped (plain (λ _. P)) f.ended.kept.0, tt) in
+    let C = (tables 𝓤 𝓛.H 𝓜 𝓡 𝓡.env).C in
+    let Λ = (tables 𝓤 𝓛.H 𝓜 𝓡 𝓡.env).Λ in
+    proved_at 𝓛 f.ended stays c 𝓜 𝓡 (Goes-blank 𝓛 0 (plain (λ _. P)) f.ended.kept.0 (λ κs x w. tt), tt) f.Key.name code.function (code.unfolded 𝓤 𝓛.H 𝓜 𝓡 wired) (λ z are.
+    let Post : Val → SProp 𝓤 = (walk_of 𝓛 f.ended stays c).post z in
     let a = z.0.3 in
     let vss = z.0.4 in
     let p : Piece = a.0 in
     let had = one (layout P) vss.0 (((part_laws.the_row_laws).lawful 𝓛).typed p vss.0 are.0) in
     let w : Val = had.0 in
-    qed 𝓛 ((raw (alive 𝓛 En₀.signature z.0.0 z.0.1) ⊛ ‵ (owns (types_at En₀.signature.params z.0.0) a vss)) ∷ ‵ ftrue ∷ []) ∵
+    qed 𝓛 ((raw (alive 𝓛 f.ended.signature z.0.0 z.0.1) ⊛ ‵ (owns (types_at f.ended.signature.params z.0.0) a vss)) ∷ ‵ ftrue ∷ []) ∵
     split ! $ drop ! $ fsplit ! $ keep ! (0 ∷ []) $
     -- [the part]
     rewrite ! 0 (λ (us : List Val). ‵ (P.own_val p us)) had.1 refl $
-    regoal ! (λ (us : List Val). prop (WpFn 𝓤 H C Λ fn us Post)) (λ i. had.1 i ++ []) refl $
-    enter ! C Λ fn (w ∷ []) Post $
+    regoal ! (λ (us : List Val). prop (WpFn 𝓤 𝓛.H C Λ code.function us Post)) (λ i. had.1 i ++ []) refl $
+    enter ! C Λ code.function (w ∷ []) Post $
     alloc_all ! (λ l. pass_all ! refl (had.2, tt) $
     sets ! (of_opd ! (get ! refl)) refl had.2 $
     let G = triple_of 𝓛 g.signature (g.spec 𝓛 𝓜.mem 𝓡.returns) in
     let y : G.Ghost = ((tt, tt, tt, (p, tt), (w ∷ [], tt)), tt) in
     nothing ! $ move ! (1 ∷ 0 ∷ []) $ join ! $ nothing ! $ join ! $ nothing ! $ move ! (1 ∷ 0 ∷ []) $ use2 𝓛 (raw (G.pre y)) (id⊢ 𝓤 _) $
-    calls_at ! (framed 𝓤 H 𝓜 (tables 𝓤 H 𝓜 𝓡 𝓡.env)) G (part_met 𝓤 𝓛 𝓜 𝓡 (code.calls-rlsf_base::memory::part::Part::into_raw 𝓡.env wired)) y
+    calls_at ! (framed 𝓤 𝓛.H 𝓜 (tables 𝓤 𝓛.H 𝓜 𝓡 𝓡.env)) G (part_met 𝓤 𝓛 𝓜 𝓡 (code.calls-rlsf_base::memory::part::Part::into_raw 𝓡.env wired)) y
     (and_then ! (get ! refl) (no_more !)) (λ v.
     let Can : Type 0 = CanCome p p.home.view (piece_range p) in
     use1 𝓛 (later (some (λ (q : Unit {0}). (‵ ftrue ⊛ ‵ (unit.own_val q (v ∷ []))) ⊛
@@ -79,5 +75,5 @@ into_thin_bytes_spec 𝓤 𝓛 𝓜 𝓡 wired =
     returns ! (look_at ! 0 refl) $ free_all ! refl $ keep ! (0 ∷ []) $
     let bytes : B.Denot = record { mark = record {}; piece = p } in
     use0 𝓛 (‵ (mark_own (mark_val ∷ []))) (mark_made 𝓛) $ fjoin ! $
-    suffices ! _ (ends_at 𝓛 En₀ stays c z mark_val bytes (rest (P.exit yes) p, tt) (tt, tt)) $
+    suffices ! _ (ends_at 𝓛 f.ended stays c z mark_val bytes (rest (P.exit yes) p, tt) (tt, tt)) $
     says_two ! (refl, can) $ nothing ! $ nothing ! $ join ! $ nothing ! $ done !)))))))

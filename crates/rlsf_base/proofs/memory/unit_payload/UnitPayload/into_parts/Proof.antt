@@ -12,15 +12,13 @@ use types.Run.{stop, fld, of_opd, bin, no_more, and_then, first, blocks, exec, r
 use types.ByLocal.{alloc_all, pass_all, free_all, look_at, get, get_in, sets, sets_last, take_at, give_at, env}
 use denote.Param.{layout}
 use denote.Plain.{uint_vals, uint_Tells}
-use denote.Builtin.{usize}
 use denote.RattleType.{RattleType, owns}
 use denote.RawPtr.{Ptr, block_ptr, in_a_block, room_for, ◌+ₚ◌}
 use denote.Laws.{Tells, Is}
-use denote.Signature.{plain, types_at}
+use denote.Signature.{types_at}
 use denote.Steps.{nothing, heard}
 use denote.Struct.Tuple.{Tuple}
-use denote.Triple.Walked.{says, Stays, stay_dropped, walk_of, Goes-dropped, ends_at}
-use Rattle.core.proofs.alloc.Calls.{Goes-blank}
+use denote.Triple.Walked.{says, Stays, walk_of, ends_at}
 use Rattle.core.proofs.alloc.Shapes.{after}
 use Rattle.std.proofs.raw_atomic.Walks.{proved}
 use Rattle.rlsf_base.specs.OpenSpace.{place_in}
@@ -28,6 +26,7 @@ use Rattle.rlsf_base.specs.Steps.Ownership.{units_ty, units_own}
 use Rattle.rlsf_base.proofs.RawBlock.PointerValues.{spot_val, spot_own, spot_told, spot_made, spot_typed}
 use Rattle.rlsf_base.proofs.RawBlock.Values.{mark_val, mark_own, mark_made, three_val, three_of}
 use Rattle.rlsf_base.proofs.memory.unit_payload.UnitPayload.TheLaws.{lowers}
+use Rattle.rlsf_base.proofs.RawBlock.Dropped.{all_dropped, all_go}
 use Rattle.rlsf_base.specs.contracts.memory.block.Units as units_type
 use Rattle.rlsf_base.specs.contracts.memory.ledger.Ticket as ticket_type
 use Rattle.rlsf_base.specs.contracts.memory.unit_payload.Spot as spot_type
@@ -42,22 +41,19 @@ payload_vals d = spot_val d.ptr d.len ∷ []
 payload_Tells : Tells payload_type.the_row (Is payload_type.the_row) payload_vals
 payload_Tells = lowers.val_is
 
-abbrev stayed : Stays f.ended.signature.params f.ended.kept
-stayed = (stay_dropped (plain (λ _. payload_type.the_row)) f.ended.kept.0, (stay_dropped (plain (λ _. usize)) f.ended.kept.1.0, tt))
-
 pub into_parts_spec : {M : Type 1} → statement M
 into_parts_spec 𝓤 𝓛 𝓜 𝓡 wired =
+    let stayed : Stays f.ended.signature.params f.ended.kept = all_dropped f.ended.signature.params f.ended.kept in
     let c = f.clauses 𝓛 𝓜.mem 𝓡.returns in let W = walk_of 𝓛 f.ended stayed c in let 𝓣 = tables 𝓤 𝓛.H 𝓜 𝓡 𝓡.env in
     proved 𝓛 f.ended stayed c 𝓜 𝓡
-    (Goes-blank 𝓛 0 (plain (λ _. payload_type.the_row)) f.ended.kept.0 (λ κs x w. tt), (Goes-dropped 𝓛 0 (plain (λ _. usize)) f.ended.kept.1.0 (λ κs x w. refl), tt))
+    (all_go 𝓛 0 f.ended.signature.params f.ended.kept ((λ κs x w. tt), ((λ κs x w. tt), tt)))
     f.Key.name code.function (code.unfolded 𝓤 𝓛.H 𝓜 𝓡 wired)
     (λ κs. (payload_vals, (uint_vals w64, tt))) (λ κs. (payload_Tells, (uint_Tells w64, tt))) (λ κs qs bounds a g are.
     let d = a.0 in let len = d.len in let kept = a.1.0 in
-    let vss : List Val × (List Val × Unit {0}) = (spot_val d.ptr len ∷ [], (uint_vals w64 kept, tt)) in
-    let y : W.Ghost = ((κs, qs, bounds, a, vss), g) in
+    let y : W.Ghost = ((κs, qs, bounds, a, (spot_val d.ptr len ∷ [], (uint_vals w64 kept, tt))), g) in
     let fits : len < 2 ^ 64 = (spot_told d.ptr len (spot_val d.ptr len ∷ []) are.0.0).1 in
     let at : Ptr = d.home.view.base.ptr in let place : ℕ = place_in d.home.view d.start in let count : ℕ = (len - d.kept) / 16 in
-    qed 𝓛 ((‵ ftrue ⊛ ‵ (owns (types_at f.signature.params κs) a vss)) ∷ raw (fact 𝓤 (kept ≡ d.kept)) ∷ []) ∵
+    qed 𝓛 ((‵ ftrue ⊛ ‵ (owns (types_at f.signature.params κs) a y.0.4)) ∷ raw (fact 𝓤 (kept ≡ d.kept)) ∷ []) ∵
     move ! (1 ∷ []) $ heard ! (kept ≡ d.kept) (λ asked.
     split ! $ drop ! $ fsplit ! $ fsplit ! $ drop ! $ fsplit ! $ keep ! (1 ∷ 0 ∷ []) $
     -- [the room; the ticket]
