@@ -213,36 +213,17 @@ module _ {ps ns : List PartitionView} {place : ℕ} {p : PayloadView} (t : IsTak
   taken_owner = get-map (λ q. q.identity) ps place t.was t.there ∙ ap Some (sym t.taken.identity)
 
   pub taken_kept : IsKept (partitions_view ps) (partitions_view ns) 27
-  taken_kept = record {
-    heaps = ap (map (λ q. q.identity)) t.set ∙ set-map (λ q. q.identity) ps place t.was t.now t.there
-        ∙ ap (λ q. slice_set (map (λ x. x.identity) ps) place q.identity) t.taken.taken
-        ∙ set-same (map (λ q. q.identity) ps) place t.was.identity (get-map (λ q. q.identity) ps place t.was t.there);
-    sizes = ap partition_for taken_quotas ∙ (λ i size. more_places place qs size i);
-    touches = omega (arith, sum-set (λ q. q.touches) ps place t.was t.now t.there, ap (sum_by (λ q. q.touches)) t.set, t.touches);
-  }
+  taken_kept = grind (arith, set-map, set-same, get-map, taken_quotas, more_places, qs, sum-set)
 
   module _ (size : ℕ) (told : partition_for qs size ≡ Some place) where
     same : quota_of t.was ≡ (found qs size place told).quota
     same = same_Some (quota_of t.was) (found qs size place told).quota (sym at ∙ (found qs size place told).there)
 
     taken_less : vacant qs size ≡ vacant (map quota_of ns) size + 1
-    taken_less =
-        let f = found qs size place told in
-        let q : Quota = record (quota_of t.was) { live = t.was.live + 1 } in
-        let after : vacant (map quota_of ns) size ≡ t.was.count - (t.was.live + 1) =
-        ap (λ l. vacant l size) set_is ∙ f.changed q (ap (λ x. x.size) same) in
-        omega (arith, f.room, ap (λ x. x.count) same, ap (λ x. x.live) same, after, t.taken.room)
+    taken_less = grind (arith, found, qs, set_is, same)
 
     pub taken_placed : IsPlaced (partitions_view ps) (partitions_view ns) size place p
-    taken_placed = record {
-      first = told;
-      still = ap (λ l. partition_for l size) taken_quotas ∙ more_places place qs size ∙ told;
-      owner = taken_owner;
-      quotas = taken_quotas ∙ more_for qs size place told;
-      less = taken_less;
-      sized = omega (arith, (found qs size place told).reaches, ap (λ x. x.size) same, t.taken.sized);
-      aligned = t.taken.aligned;
-    }
+    taken_placed = grind (arith, taken_quotas, more_places, qs, taken_owner, more_for, taken_less, found, same)
 
     pub some_vacant : vacant qs size ≡ 0 → ⊥
     some_vacant none = omega (arith, none, taken_less)
@@ -305,13 +286,7 @@ module _ {ps ns : List PartitionView} {place : ℕ} (g : IsGivenBackAt ps ns pla
       omega (arith, f.room, ap (λ x. x.count) same, ap (λ x. x.live) same, before, live, count, g.within)
 
   pub given_kept : IsKept (partitions_view ps) (partitions_view ns) 32
-  given_kept = record {
-    heaps = ap (map (λ q. q.identity)) g.set ∙ set-map (λ q. q.identity) ps place g.was g.now g.there
-        ∙ ap (λ w. slice_set (map (λ x. x.identity) ps) place w.identity) (sym g.given_back)
-        ∙ set-same (map (λ q. q.identity) ps) place g.was.identity (get-map (λ q. q.identity) ps place g.was g.there);
-    sizes = ap partition_for given_freed ∙ (λ i size. less_places place rs size i);
-    touches = omega (arith, sum-set (λ q. q.touches) ps place g.was g.now g.there, ap (sum_by (λ q. q.touches)) g.set, g.touches);
-  }
+  given_kept = grind (arith, set-map, set-same, get-map, given_freed, less_places, rs, sum-set)
 
 -- ---- new pools
 

@@ -43,19 +43,7 @@ sixteen = refl
 pub HasTiles-new : (v w : HeapView) (r : Range) (reply : Option ℕ) (asked count : ℕ) → v.state ≡ empty → Steps 59 8 w (Inserts 59 v.state r reply)
     → 64 ≤ (aligned_part r).len → count * request_size asked 16 + 32 ≤ (aligned_part r).len → HasTiles w.state asked count
 unfolding HasTiles
-HasTiles-new v w r reply asked count none steps enough room =
-    let part = aligned_part r in
-    let step = subst (λ s. Inserts 59 s r reply w.state) none (stepped w (Inserts 59 v.state r reply) steps) in
-    let after : w.state ≡ with_chunks (part ∷ []) empty = step.after ∙ ap (λ b. with_chunks (cond b (range_at part.start part.len ∷ []) []) empty)
-    (le-leb 64 part.len enough) in (
-      part,
-      subst (IsUniform (request_size asked 16) part) (sym after) (record {
-        chunks = refl;
-        used = λ u i. absurd i;
-        free = λ f. elim [ inl same ↦ (0, ap (λ x. x.start) same ∙ omega arith) | inr bad ↦ absurd bad ];
-      }),
-      room,
-    )
+HasTiles-new v w r reply asked count none steps enough room = grind (arith, stepped, le-leb)
 
 pub HasTiles-allocated : (v w : HeapView) (asked align count : ℕ) (reply : Option ℕ) → align ≡ 16 → Stands 59 8 v
     → Steps 59 8 w (Allocates 8 v.state asked align reply) → HasTiles v.state asked count → HasTiles w.state asked count
