@@ -33,11 +33,9 @@ use Rattle.rlsf_heap.specs.Frame.{KeepsAllBounds, KeepsHeap}
 use Rattle.rlsf_heap.specs.Heap.{AreIssued, IsHeapOf, IsOutsideChunks, IsTicketOf, Steps, heap_view}
 use Rattle.rlsf_heap.specs.Kept.{KeepsOwn}
 use Rattle.rlsf_heap.specs.Replies.{IsGone}
-use Rattle.rlsf_heap.proofs.Kept.{same-byte, spare-then}
-use Rattle.rlsf_heap.proofs.LentBytes.{lent_kept}
+use Rattle.rlsf_heap.proofs.Kept.{same-byte, spare-then, lent_kept, outside_unlent, rest_kept}
 use Rattle.rlsf_heap.proofs.OnCores.{IsHeap-left, Steps-left, heap-over}
-use Rattle.rlsf_heap.proofs.Shown.{IsReturned, IsShown, all_behind, block, ends, held, issued-released, long, outside-back, own-back, stands-back, wide}
-use Rattle.rlsf_heap.proofs.Rest.{outside_unlent, rest_kept}
+use Rattle.rlsf_heap.proofs.Tickets.{IsReturned, IsShown, all_behind, block, ends, held, issued-released, long, outside-back, own-back, stands-back, wide}
 
 -- the other used blocks are unchanged
 pub others-filled : (addr : ℕ) (bytes : List ℕ) (us : List Used) → others addr (filled_at addr bytes us) ≡ others addr us
@@ -54,14 +52,6 @@ others-filled addr bytes (u ∷ us) =
 module _ {fllen sllen : ℕ} {memory : Range} {s t : State} {addr : ℕ} (w : IsWellFormed fllen sllen memory s) (did : Deallocates s addr t) where
   pub is_released : (u : Used) → Holds s addr u → released s u ≡ t
   is_released u holds = ap (released s) (Holds-unique w addr u did.block holds did.holds) ∙ sym did.after
-
-  gone : IsGone s t addr
-  gone =
-      let seen = gone_seen w t addr (did.block, did.holds) did in
-      record { gone = seen.gone; aligns = seen.aligns; count = count_gone w t addr (did.block, did.holds) did }
-
-  bounds_gone : KeepsAllBounds sllen s t
-  bounds_gone count most wide sized = sized_gone w t count most wide sized addr (did.block, did.holds) did
 
 -- a part's ticket shows the part
 pub as_part : {align addr len wide : ℕ} (p : Piece) → IsTicketOf p align (extent addr len wide) → extent addr len wide ≡ extent p.start (length p.bytes) align
@@ -125,7 +115,9 @@ module _ {fl_bits sl_bits fllen sllen : ℕ} {m n : Space} {x : Table} {j : Stat
     did = g.steps (read_from o l) (subst (λ a. Deallocates (read_from n j) a (read_from o l)) same step)
 
     pub gone_given : IsGone (read_from m j) (read_from o l) e.addr
-    gone_given = gone is.stands.well_formed did
+    gone_given =
+        let seen = gone_seen is.stands.well_formed (read_from o l) e.addr (did.block, did.holds) did in
+        record { gone = seen.gone; aligns = seen.aligns; count = count_gone is.stands.well_formed (read_from o l) e.addr (did.block, did.holds) did }
 
     -- the blocks of live payloads have fewer bytes
     pub freed_given : live_bytes (read_from o l) + request_size e.len 16 ≤ live_bytes (read_from m j)
@@ -157,7 +149,7 @@ module _ {fl_bits sl_bits fllen sllen : ℕ} {m n : Space} {x : Table} {j : Stat
     step_given label = Steps-left left label lent (Deallocates (read_from m j) e.addr) did
 
     pub bounds_given : KeepsAllBounds sllen (read_from m j) (read_from o l)
-    bounds_given = bounds_gone is.stands.well_formed did
+    bounds_given count most wide sized = sized_gone is.stands.well_formed (read_from o l) count most wide sized e.addr (did.block, did.holds) did
 
     pub keeps_given : (ledger label : ℕ) → label ≡ ledger → KeepsHeap (heap_view m x j ledger lent) (heap_view o y l label lent)
     keeps_given ledger label named =

@@ -51,19 +51,13 @@ use Rattle.rlsf_heap.specs.Reallocation.{owned_by}
 use Rattle.rlsf_heap.specs.Replies.{IsRefused, IsResized}
 use Rattle.rlsf_heap.specs.Settled.{IsSettled}
 use Rattle.rlsf_heap.specs.ThinUnknownAlign.{IfBytesSuffice}
-use Rattle.rlsf_heap.proofs.Arrivals.{IsHeap-arrived, Steps-arrived}
-use Rattle.rlsf_heap.proofs.Kept.{raw-left, raw-stays, raw-with, same-byte, spare-last, spare-then}
-use Rattle.rlsf_heap.proofs.LentBytes.{lent_kept}
-use Rattle.rlsf_heap.proofs.Read.{stands-without}
-use Rattle.rlsf_heap.proofs.Rest.{outside_unlent, own_without, rest_kept}
+use Rattle.rlsf_heap.proofs.OnCores.{IsHeap-arrived, Steps-arrived, heap-over, same_identity, stays}
+use Rattle.rlsf_heap.proofs.Kept.{raw-left, raw-stays, raw-with, same-byte, spare-last, spare-then, lent_kept, stands-without, outside_unlent, own_without, rest_kept, settled-back}
+use Rattle.rlsf_heap.proofs.Kept.{settled-here, settled-left, settled-stays}
 use Rattle.rlsf_tlsf.proofs.Placed.{lies_used}
-use Rattle.rlsf_heap.proofs.OnCores.{heap-over, same_identity, stays}
-use Rattle.rlsf_heap.proofs.PayloadsApart.{payload_as, redeemed_ticket, shown_live}
-use Rattle.rlsf_heap.proofs.Reallocated.{Keeps-each}
-use Rattle.rlsf_heap.proofs.ResizedParts.{own_at, still}
-use Rattle.rlsf_heap.proofs.Settled.{settled-back, settled-here, settled-left, settled-stays}
-use Rattle.rlsf_heap.proofs.Tickets.{issued-less, issued-more, redeemed_apart}
-use Rattle.rlsf_heap.proofs.Shown.{IsShown, block, held, live, long, usable_is, wide, lies}
+use Rattle.rlsf_heap.proofs.Tickets.{payload_as, redeemed_ticket, shown_live, own_at, still, issued-less, issued-more, redeemed_apart, IsShown, block, held, live, long, usable_is}
+use Rattle.rlsf_heap.proofs.Tickets.{wide, lies}
+use Rattle.rlsf_heap.proofs.Found.{Keeps-each}
 use Rattle.rlsf_heap.proofs.Released.{IsGiven, is_released, others-filled}
 
 -- the tickets are those of the same payloads, for any bytes
@@ -345,11 +339,8 @@ module _ {fl_bits sl_bits fllen sllen : ℕ} {m n : Space} {x : Table} {j : Stat
         standing = stands-without core.core.stands u holds.0 q over.memory.start over.memory.bytes (over.memory.out ∙ ap (out_without o) range_is)
 
         -- the state is the one that the call led to
-        state_over : read_from q k ≡ read_from o k
-        state_over = arrived standing k (sym (bare-core core.core))
-
         pub reads_over : (P : State → Type 0) → P (read_from o k) → P (read_from q k)
-        reads_over P = subst P (sym state_over)
+        reads_over P = subst P (sym (arrived standing k (sym (bare-core core.core))))
 
         -- the payload is where the call put it
         begins : p.start ≡ to

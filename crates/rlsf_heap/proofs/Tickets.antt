@@ -1,30 +1,61 @@
 -- The live entries of a ledger, once a ticket is redeemed or issued.
-use Rattle.std.proofs.Common.{◌≡◌, ◌≢◌, ℕ, ◌+◌, ◌-◌, ◌⊎◌, true, false, true≢false, List, [], ◌∷◌, ◌++◌, length, get_or, set, arith, inl}
-use Rattle.std.proofs.Common.{inr, refl, sym, ap, subst, ◌∙◌}
+use Rattle.std.proofs.Common.{◌≡◌, ◌≢◌, ℕ, ◌+◌, ◌-◌, ◌⊎◌, true, false, true≢false, List, [], ◌∷◌, ◌++◌, length, length-append, get_or, set, arith, inl, inr, refl, sym, ap, subst, ◌∙◌, ◌<◌, ◌≤◌}
+use Rattle.std.proofs.Common.{Some, ◌%◌, ◌^◌, Option, None}
 use Rattle.std.proofs.lemmas.Bool.{cases_eq, cases_lt}
 use Rattle.std.proofs.lemmas.List.{get_or-set_same, get_or-set_other, get_or_append_left, get_or-append_right, length-set}
-use Rattle.rlsf_base.specs.Ledger.{Entry, Extent, entry_of, nowhere, IsIssued}
-use Rattle.rlsf_model.specs.State.{State}
-use Rattle.rlsf_heap.specs.Heap.{AreIssued, IsPayload}
+use Rattle.rlsf_base.specs.Ledger.{Entry, Extent, entry_of, nowhere, IsIssued, extent}
+use Rattle.rlsf_model.specs.State.{State, Used, Holds, usable}
+use Rattle.rlsf_heap.specs.Heap.{AreIssued, IsPayload, LiesInChunk, PayloadView, HeapView, Identity, IsTicketOf, IsWritten, Stands, Steps, payload_range, payload_view}
+use Rattle.rlsf_base.specs.declared.memory.range.Range.{Range}
+use Rattle.rlsf_base.specs.MemoryCalls.{IsSpaceWith}
+use Rattle.rlsf_base.specs.OpenSpace.{IsOwned, out_raw, Home, home_of, SameOwn, IsReadable, out_without}
+use Rattle.rlsf_base.specs.Out.{raw, is_own, kept_at}
+use Rattle.rlsf_base.specs.Range.{LiesIn, end_of, range_at, AreApart}
+use Rattle.rlsf_base.specs.Space.{Space, out_at, word_at}
+use Rattle.rlsf_base.proofs.Changes.{changed-there}
+use Rattle.rlsf_model.specs.Callers.{align_at, bytes_at}
+use Rattle.rlsf_model.specs.Release.{released}
+use Rattle.rlsf_model.proofs.CallerWords.{align_at-held, align_at-live, bytes_at-held}
+use Rattle.rlsf_model.proofs.Changes.{IsIn-others_from, Holds-unique}
+use Rattle.rlsf_table.specs.Table.{Table}
+use Rattle.rlsf_blocks.specs.StandsFor.{contents, IsUnlent, StandsFor}
+use Rattle.rlsf_tlsf.proofs.Placed.{lies_used}
+use Rattle.rlsf_heap.proofs.Kept.{out-back, stands_same, out-left}
+use Rattle.rlsf_model.specs.WellFormed.{IsWellFormed, IsUsed}
+use Rattle.rlsf_model.proofs.Live.{live_addresses_are_aligned}
+use Rattle.rlsf_model.proofs.Payloads.{IsUsed-after_start, payload_of-le, payload_of-after}
+use Rattle.rlsf_blocks.proofs.Words.Apart.{home_of_used, used_used, used_in_memory}
+use Rattle.rlsf_heap.specs.Renewed.{IsRedeemed}
+use Rattle.rlsf_base.specs.declared.memory.ledger.Ticket.{Ticket}
+use Rattle.rlsf_base.specs.declared.memory.view.View.{View}
+use Rattle.rlsf_base.specs.Piece.{CanCome, IsFull, Piece, piece_range}
+use Rattle.rlsf_model.specs.Allocate.{Allocates, placed}
+use Rattle.rlsf_model.specs.Lists.{IsIn}
+use Rattle.rlsf_blocks.specs.Steps.LiveBlock.{AtEachBlock, IsLiveIn}
+use Rattle.rlsf_blocks.proofs.Reallocate.Addresses.{some_reply}
+use Rattle.rlsf_heap.specs.Raw.{CanComeBack, bytes_of}
+use Rattle.rlsf_heap.specs.Thin.{reply_of}
+use Rattle.rlsf_tlsf.specs.CoreResizes.{KeepsPayloadsResizing}
+use Rattle.rlsf_heap.specs.ThinUnknownAlign.{renewed_entries}
+use Rattle.rlsf_base.specs.PowerOfTwo.{IsPowerOfTwo}
+use Rattle.rlsf_base.specs.Rounding.{round32}
+use Rattle.rlsf_model.specs.Payload.{payload_of}
+use Rattle.rlsf_heap.specs.Units.{payload_len}
+use Rattle.rlsf_base.proofs.Lending.Present.{own-word}
+use Rattle.rlsf_base.proofs.Lending.WordIsHere.{is_word}
+use Rattle.rlsf_model.specs.NoMove.{ReallocatesUnmovedBy, ReallocatesWithoutMove, unmoved_plan}
+use Rattle.rlsf_model.specs.Reallocate.{Plan, into_next, or_else, resized}
+use Rattle.rlsf_blocks.proofs.Words.NeverOut.{here_behind_used}
+use Rattle.rlsf_blocks.specs.Steps.Resize.{IsOwnedBehind}
+use Rattle.rlsf_blocks.proofs.Reallocate.NextPlans.{in_place-fits, kept_whole}
+use Rattle.rlsf_tlsf.specs.Results.{IsResized}
 
 -- ---- the k-th ticket was redeemed
 
 module _ (entries : List Entry) (k : ℕ) (shown : Extent) (is : IsIssued entries k shown) where
   -- the other entries are live as before
   pub redeemed_other : (j : ℕ) (w : Extent) → IsIssued (set entries k (entry_of shown false)) j w → (j ≢ k) × IsIssued entries j w
-  redeemed_other j w was = elim (cases_eq j k) [
-    | inl same ↦
-        let here = get_or-set_same entries k (entry_of shown false) (entry_of nowhere false) is.0 in
-        let there = ap (λ i. get_or (set entries k (entry_of shown false)) i (entry_of nowhere false)) (sym same) in
-        absurd (true≢false (ap (λ (e : Entry). e.live) (sym was.1 ∙ sym there ∙ here)))
-    | inr apart ↦ (
-      apart,
-      (
-        omega (arith, was.0, length-set entries k (entry_of shown false)),
-        sym (get_or-set_other entries k j (entry_of shown false) (entry_of nowhere false) apart) ∙ was.1,
-      ),
-    )
-  ]
+  redeemed_other j w was = grind (arith, cases_eq, get_or-set_same, set, true≢false, length-set, get_or-set_other)
 
   module _ (s : State) (tickets : AreIssued s entries) where
     -- none of them is at its address
@@ -40,23 +71,16 @@ module _ (entries : List Entry) (k : ℕ) (shown : Extent) (is : IsIssued entrie
 -- ---- a ticket was issued
 
 module _ (entries : List Entry) (new : Extent) where
-  length-append1 : (xs : List Entry) (x : Entry) → length (xs ++ x ∷ []) ≡ length xs + 1
-  length-append1 [] x = refl
-  length-append1 (y ∷ ys) x = omega (arith, length-append1 ys x)
-
-  zero-of : (k : ℕ) → k - k ≡ 0
-  zero-of k = omega arith
-
   -- a live entry is one of before, or the new one
   pub issued_last : (j : ℕ) (w : Extent) → IsIssued (entries ++ entry_of new true ∷ []) j w → IsIssued entries j w ⊎ ((j ≡ length entries) × (w ≡ new))
   issued_last j w is = elim (cases_lt j (length entries)) [
     | inl old ↦ inl (old, sym (get_or_append_left entries (entry_of new true ∷ []) (entry_of nowhere false) j old) ∙ is.1)
     | inr high ↦
-        let last : j ≡ length entries = omega (arith, high, is.0, length-append1 entries (entry_of new true)) in
+        let last : j ≡ length entries = omega (arith, high, is.0, length-append entries (entry_of new true ∷ [])) in
         let there : get_or (entries ++ entry_of new true ∷ []) j (entry_of nowhere false) ≡ entry_of new true =
         ap (λ i. get_or (entries ++ entry_of new true ∷ []) i (entry_of nowhere false)) last
         ∙ get_or-append_right entries (entry_of new true ∷ []) (length entries) (length entries) (entry_of nowhere false) refl (omega arith)
-        ∙ ap (λ i. get_or (entry_of new true ∷ []) i (entry_of nowhere false)) (zero-of (length entries)) in
+        ∙ ap (λ i. get_or (entry_of new true ∷ []) i (entry_of nowhere false)) (let e : length entries - length entries ≡ 0 = omega arith in e) in
         let same_entry : entry_of w true ≡ entry_of new true = sym is.1 ∙ there in
         inr (last, λ i. record { addr = (same_entry i).addr; len = (same_entry i).len; align = (same_entry i).align })
   ]
@@ -105,3 +129,401 @@ module _ (entries : List Entry) (s : State) (tickets : AreIssued s entries) (j k
         | inl old ↦ redeemed_apart (set entries j (entry_of v false)) k w second s less i x old
         | inr (last, new) ↦ λ same. both_apart (ap (λ (y : Extent). y.addr) (sym new) ∙ same)
       ])
+
+-- ---- a live ticket shows a payload, whose bytes behind the first ones come back raw
+
+pub record IsShown (fllen sllen : ℕ) (m : Space) (table : Table) (s : State) (es : List Entry) (k : ℕ) (e : Extent) : Type 0 where
+  pub stands : StandsFor fllen sllen (contents m table) s
+  pub tickets : AreIssued s es
+  pub issued : IsIssued es k e
+
+module _ {fllen sllen : ℕ} {m : Space} {table : Table} {s : State} {es : List Entry} {k : ℕ} {e : Extent} (p : IsShown fllen sllen m table s es k e) where
+  pub found : IsPayload s e
+  found = p.tickets.issued k e p.issued
+
+  pub block : Used
+  block = found.0
+
+  pub held : Holds s e.addr block
+  unfolding block
+  held = (found.1, found.2)
+
+  pub wide : block.align ≡ e.align
+  unfolding block
+  wide = found.4
+
+  pub long : (usable block).len ≡ e.len
+  unfolding block
+  long = found.3
+
+  pub live : align_at s e.addr ≡ Some e.align
+  live = align_at-held p.stands.well_formed e.addr block held ∙ ap Some wide
+
+  pub usable_is : usable block ≡ range_at e.addr e.len
+  usable_is = λ i. range_at (held.1 i) (long i)
+
+  -- it lies in the memory
+  pub lies : LiesIn (range_at e.addr e.len) m.start (length m.bytes)
+  lies = subst (λ (r : Range). LiesIn r m.start (length m.bytes)) usable_is (lies_used p.stands block held.0)
+
+  pub ends : end_of block.block ≡ e.addr + e.len
+  ends = omega (arith, long, held.1, (p.stands.well_formed.used block held.0).within)
+
+  -- its ticket is redeemed, and its block is released
+  pub issued-released : AreIssued (released s block) (set es k (entry_of e false))
+  issued-released = record {
+    issued = λ j w was.
+        let (apart, old) = redeemed_other es k e p.issued j w was in
+        let (x, i, at, len, wide) = p.tickets.issued j w old in
+        (x, IsIn-others_from block.payload x s.used i (λ same. apart (p.tickets.apart j k w e old p.issued (sym at ∙ same ∙ held.1))), at, len, wide);
+    apart = λ i j w x one two at. p.tickets.apart i j w x (redeemed_other es k e p.issued i w one).1 (redeemed_other es k e p.issued j x two).1 at;
+  }
+
+-- its bytes behind the first ones are back
+pub record IsReturned (fllen sllen : ℕ) (m n : Space) (table : Table) (s : State) (es : List Entry) (k : ℕ) (e : Extent) (kept : ℕ) : Type 0 where
+  pub shown : IsShown fllen sllen m table s es k e
+  pub within : kept ≤ e.len
+  pub memory : IsSpaceWith m n m.bytes (out_raw m (range_at (e.addr + kept) (e.len - kept)))
+
+module _ {fllen sllen : ℕ} {m n : Space} {table : Table} {s : State} {es : List Entry} {k : ℕ} {e : Extent} {kept : ℕ}
+    (b : IsReturned fllen sllen m n table s es k e kept) where
+  side : (a : ℕ) → (a < (block b.shown).payload) ⊎ (end_of (block b.shown).block ≤ a) → (a < e.addr + kept) ⊎ (e.addr + kept + (e.len - kept) ≤ a)
+  side a (inl before) = inl (omega (arith, before, (held b.shown).1))
+  side a (inr past) = inr (omega (arith, past, ends b.shown, b.within))
+
+  pub outside-back : (a : ℕ) → m.start ≤ a → IsUnlent s a → out_at n a ≡ out_at m a
+  outside-back a from unlent =
+      out-back m n (range_at (e.addr + kept) (e.len - kept)) b.memory.start (omega (arith, (lies b.shown).0)) b.memory.out a from
+      (side a (unlent (block b.shown) (held b.shown).0))
+
+  pub stands-back : StandsFor fllen sllen (contents n table) s
+  stands-back = stands_same m n b.shown.stands b.memory.start b.memory.bytes outside-back
+
+  pub own-back : IsOwned n (range_at (e.addr + kept) (e.len - kept))
+  own-back a lo hi =
+      (λ i. is_own (kept_at (b.memory.out i) (a - b.memory.start i)))
+      ∙ ap is_own (changed-there raw m.out (e.addr + kept - m.start) (e.len - kept) (a - m.start) (omega (arith, lo, (lies b.shown).0)) (omega (arith, hi, lo, (lies b.shown).0)))
+
+-- all bytes are those behind the first 0
+pub all_behind : (start len kept : ℕ) → kept ≡ 0 → range_at (start + kept) (len - kept) ≡ range_at start len
+all_behind start len kept none = λ i. range_at (let e : start + kept ≡ start = omega (arith, none) in e i) (let e : len - kept ≡ len = omega (arith, none) in e i)
+
+-- ---- payloads that tickets show are live, aligned, each in one chunk, and apart
+
+-- what a redeemed payload's ticket was
+pub redeemed_ticket : (p : PayloadView) (es fs : List Entry) → IsRedeemed p es fs
+    → (k : ℕ) × IsIssued es k (extent p.start (length p.bytes) p.align) × (fs ≡ set es k (entry_of (extent p.start (length p.bytes) p.align) false))
+unfolding IsRedeemed
+redeemed_ticket p es fs is = is
+
+module _ {fllen sllen : ℕ} {memory : Range} {s : State} (w : IsWellFormed fllen sllen memory s) where
+  module _ (v : Extent) (is : IsPayload s v) where
+    abbrev u : Used
+    u = is.0
+
+    pub shown_live : align_at s v.addr ≡ Some v.align
+    shown_live = align_at-held w v.addr u (is.1, is.2) ∙ ap Some is.4
+
+    pub shown_long : v.len ≡ length (bytes_at s v.addr)
+    shown_long = sym (ap length (bytes_at-held w v.addr u (is.1, is.2)) ∙ (w.used u is.1).bytes ∙ is.3)
+
+    pub shown_aligned : v.addr % v.align ≡ 0
+    shown_aligned = live_addresses_are_aligned fllen sllen memory s v.addr v.align w (u, (is.1, is.2), is.4)
+
+    pub shown_inside : LiesInChunk s (range_at v.addr v.len)
+    unfolding LiesInChunk
+    shown_inside =
+        let home = home_of_used w u is.1 in
+        let of = w.used u is.1 in
+        (home.chunk, home.is_chunk, omega (arith, home.from, IsUsed-after_start u of, is.2), omega (arith, home.to, of.within, is.2, is.3))
+
+  -- it is one of another state in which callers see the same at its address
+  pub payload_as : {other : Range} {t : State} → IsWellFormed fllen sllen other t → (v : Extent) → IsPayload s v → align_at t v.addr ≡ align_at s v.addr
+      → bytes_at t v.addr ≡ bytes_at s v.addr → IsPayload t v
+  payload_as {t = t} well v is aligns bytes =
+      let (u, holds, wide) = align_at-live t v.addr v.align (aligns ∙ shown_live v is) in
+      (u, holds.0, holds.1, sym (ap length (bytes_at-held well v.addr u holds) ∙ (well.used u holds.0).bytes) ∙ ap length bytes ∙ sym (shown_long v is), wide)
+
+  -- payloads at two addresses have no byte in common
+  pub shown_apart : (v x : Extent) → IsPayload s v → IsPayload s x → v.addr ≢ x.addr → AreApart (range_at v.addr v.len) (range_at x.addr x.len)
+  shown_apart v x one two differ =
+      let a = one.0 in
+      let b = two.0 in
+      let of_a = w.used a one.1 in
+      let of_b = w.used b two.1 in
+      let same : a ≡ b → ⊥ = λ e. differ (sym one.2 ∙ ap (λ (y : Used). y.payload) e ∙ two.2) in
+      elim (cases_lt a.block.start b.block.start) [
+        | inl earlier ↦ elim (cases_lt b.block.start (end_of a.block)) [
+          | inl inside ↦
+              absurd (same (used_used w a b b.block.start one.1 two.1 (record { from = omega arith; to = inside }) (record { from = omega arith; to = omega arith })))
+          | inr behind ↦ inl (omega (arith, behind, of_a.within, IsUsed-after_start b of_b, one.2, one.3, two.2))
+        ]
+        | inr later ↦ elim (cases_lt a.block.start (end_of b.block)) [
+          | inl inside ↦
+              absurd (same (used_used w a b a.block.start one.1 two.1 (record { from = omega arith; to = omega arith }) (record { from = later; to = inside })))
+          | inr behind ↦ inr (omega (arith, behind, of_b.within, IsUsed-after_start a of_a, two.2, two.3, one.2))
+        ]
+      ]
+
+-- ---- payloads that are known by their address
+
+-- no payload is at the address 0
+pub some_address : (fllen sllen : ℕ) (v : HeapView) (s : State) (size align addr : ℕ) → Steps fllen sllen v (Allocates sllen s size align (Some addr)) → addr ≢ 0
+unfolding Steps Stands
+some_address fllen sllen v s size align addr (p, stands) = grind (arith, p, IsUsed-after_start)
+
+-- what a payload's ticket shows
+abbrev pub shown : PayloadView → Extent
+shown p = extent p.start (length p.bytes) p.align
+
+-- the payload's ticket
+abbrev pub IsTicketFor : PayloadView → Ticket → Type 0
+IsTicketFor p t = (t.name ≡ p.identity.ledger) × (t.addr ≡ p.start) × (t.len ≡ length p.bytes) × (t.align ≡ p.align)
+
+module _ {fllen sllen : ℕ} {m : Space} {table : Table} {s : State} {entries : List Entry} (v : StandsFor fllen sllen (contents m table) s) (tickets : AreIssued s entries)
+    (of : PayloadView) (addr key : ℕ) (same : of.start ≡ addr) (known : IsIssued entries key (shown of)) where
+  p : IsShown fllen sllen m table s entries key (shown of)
+  p = record { stands = v; tickets = tickets; issued = known }
+
+  pub live_in : IsLiveIn m addr
+  live_in = (fllen, sllen, contents m table, s, refl, v, (block p, ((held p).0, (held p).1 ∙ same)))
+
+  -- the range that is found has its bytes
+  pub ranged : (r : Range) → AtEachBlock m addr (λ u. r ≡ usable u) → r ≡ payload_range of
+  ranged r each = each fllen sllen (contents m table) s (block p) refl v ((held p).0, (held p).1 ∙ same) ∙ usable_is p
+
+  -- the bytes of a payload that was found with its ticket lie where its length says
+  pub comes_found : (h : Identity) → home_of m ≡ h.home → of.identity ≡ h → (p : PayloadView) → p ≡ of → (q : Piece) → (q ≡ bytes_of p) × CanComeBack p → (n : Space)
+      → n ≡ record m { touches = m.touches + 3 } → (view : View) → view ≡ n.view → (r : Range) → AtEachBlock m addr (λ u. r ≡ usable u) → CanCome q view r
+  comes_found h home heap p same q bytes n touched view viewed r each = grind (arith, ranged)
+
+-- an allocated payload, known by its address
+module _ (fllen sllen : ℕ) (before after : HeapView) (size align : ℕ) (p q : PayloadView) (is : q ≡ p)
+    (did : Steps fllen sllen after (Allocates sllen before.state size align (Some p.start))) where
+  pub is_some : q.start ≢ 0
+  is_some e = some_address fllen sllen after before.state size align p.start did (ap (λ (o : PayloadView). o.start) (sym is) ∙ e)
+
+  pub thin_step : Steps fllen sllen after (Allocates sllen before.state size align (reply_of q.start))
+  thin_step =
+      subst (λ o. Steps fllen sllen after (Allocates sllen before.state size align o)) ((λ i. Some (sym is i).start) ∙ some_reply q.start is_some) did
+
+-- ---- its bytes as a part
+
+module _ (of : PayloadView) (q : Piece) (one : q ≡ bytes_of of) where
+  -- the payload is made of the part with its bytes
+  pub payload_of_bytes : payload_view q of.align of.identity.ledger ≡ of
+  payload_of_bytes = ap (λ (o : Piece). payload_view o of.align of.identity.ledger) one
+
+  -- its ticket is one of this part
+  pub ticket_of_bytes : (t : Ticket) → IsTicketFor of t → IsTicketOf q of.align (extent t.addr t.len t.align)
+  ticket_of_bytes t is = (ap (λ (o : Piece). o.start) one ∙ sym is.1, ap (λ (o : Piece). length o.bytes) one ∙ sym is.2, sym is.3)
+
+  -- they are of its heap
+  pub identity_of_bytes : (t : Ticket) → IsTicketFor of t → ◌≡◌ {A = Identity} (record { home = q.home; ledger = t.name }) of.identity
+  identity_of_bytes t is = λ i. record { home = (one i).home; ledger = is.0 i }
+
+  -- they can be a part again
+  pub comes_back : CanComeBack of → CanCome q q.home.view (piece_range q)
+  comes_back whole = subst (λ (o : Piece). CanCome o o.home.view (piece_range o)) (sym one) whole
+
+-- ---- the payload at an address may have another size: the others are as they were, and its bytes are the memory's own
+
+-- a ticket is renewed, and the other payloads are as they were
+pub issued_renewed : {s t : State} {es : List Entry} (key : ℕ) (shown : Extent) (len : ℕ) → AreIssued s es → IsIssued es key shown
+    → ((e : Extent) → IsPayload s e → e.addr ≢ shown.addr → IsPayload t e) → IsPayload t (extent shown.addr len shown.align) → AreIssued t (renewed_entries es key shown len)
+issued_renewed {s} {t} {es} key shown len tickets is others there =
+    let less = issued-less es key shown is s tickets in
+    let apart = redeemed_apart es key shown is s tickets in
+    issued-more (set es key (entry_of shown false)) (extent shown.addr len shown.align) t
+    (record { issued = λ j e was. others e (less.issued j e was) (apart j e was); apart = less.apart }) there apart
+
+-- ---- the payload at an address may have another size
+
+module _ {fllen sllen : ℕ} {m o : Space} {x y : Table} {s t : State} {addr : ℕ} (v : StandsFor fllen sllen (contents m x) s) (w : StandsFor fllen sllen (contents o y) t)
+    (kept : KeepsPayloadsResizing s t addr) where
+  -- each payload is live, with its alignment
+  pub still : (a : ℕ) (u : Used) → Holds s a u → (z : Used) × Holds t a z × (z.align ≡ u.align)
+  still a u holds = align_at-live t a u.align (ap (λ f. f a) kept.aligns ∙ align_at-held v.well_formed a u holds)
+
+  -- the others are as long as they were
+  many : (a : ℕ) (u z : Used) → Holds s a u → Holds t a z → a ≢ addr → (usable z).len ≡ (usable u).len
+  many a u z was is apart =
+      sym (w.well_formed.used z is.0).bytes
+      ∙ ap length (sym (bytes_at-held w.well_formed a z is) ∙ kept.bytes a apart ∙ bytes_at-held v.well_formed a u was) ∙ (v.well_formed.used u was.0).bytes
+
+  pub payload_still : (e : Extent) → IsPayload s e → e.addr ≢ addr → IsPayload t e
+  payload_still e (u, i, at, as_long, wide) apart =
+      let (z, holds, same) = still e.addr u (i, at) in (z, holds.0, holds.1, many e.addr u z (i, at) holds apart ∙ as_long, same ∙ wide)
+
+  pub payload_there : (e : Extent) → IsPayload s e → e.addr ≡ addr → (len : ℕ) → ((z : Used) → Holds t addr z → len ≡ (usable z).len)
+      → IsPayload t (extent e.addr len e.align)
+  payload_there e (u, i, at, _, wide) same len as_long =
+      let (z, holds, aligned) = still addr u (i, at ∙ same) in (z, holds.0, holds.1 ∙ sym same, sym (as_long z holds), aligned ∙ wide)
+
+  module _ (u z : Used) (was : Holds s addr u) (is : Holds t addr z) where
+    -- a byte that it has now, and had not before, was no payload's
+    unlent : (a : ℕ) → end_of u.block ≤ a → addr ≤ a → a < end_of z.block → IsUnlent s a
+    unlent a past lo hi y i = elim (cases_eq y.payload addr) [
+      | inl same ↦ inr (subst (λ (b : Used). end_of b.block ≤ a) (Holds-unique v.well_formed addr u y was (i, same)) past)
+      | inr apart ↦ elim (cases_lt a y.payload) [
+        | inl before ↦ inl before
+        | inr from ↦ elim (cases_lt a (end_of y.block)) [
+          | inl within ↦
+              let (b, there, _) = still y.payload y (i, refl) in
+              let ends = many y.payload y b (i, refl) there apart in
+              let one = used_used w.well_formed b z a there.0 is.0
+              (record {
+                from = omega (arith, from, there.1, IsUsed-after_start b (w.well_formed.used b there.0));
+                to = omega (arith, within, ends, there.1, (v.well_formed.used y i).within, (w.well_formed.used b there.0).within);
+              })
+              (record { from = omega (arith, lo, is.1, IsUsed-after_start z (w.well_formed.used z is.0)); to = hi }) in
+              absurd (apart (sym there.1 ∙ ap (λ (c : Used). c.payload) one ∙ is.1))
+          | inr beyond ↦ inr beyond
+        ]
+      ]
+    ]
+
+    -- its bytes are the memory's own if those that it had are
+    pub own_at : o.start ≡ m.start → SameOwn m o → (a : ℕ) → addr ≤ a → a < end_of z.block → (a < end_of u.block → is_own (out_at m a) ≡ true) → is_own (out_at o a) ≡ true
+    own_at start own a lo hi mine =
+        let from : m.start ≤ a = omega (arith, lo, start, is.1, (lies_used w z is.0).0) in
+        own a from ∙ elim (cases_lt a (end_of u.block)) [
+          | inl inside ↦ mine inside
+          | inr past ↦
+              let home = home_of_used w.well_formed z is.0 in
+              let deep = IsUsed-after_start z (w.well_formed.used z is.0) in
+              v.own a from (unlent a past lo hi) home.chunk (subst (IsIn home.chunk) kept.chunks home.is_chunk) (omega (arith, home.from, deep, lo, is.1))
+              (omega (arith, home.to, hi))
+        ]
+
+-- ---- payloads of whole units: where they begin, and their length
+
+-- at an alignment of 16 or less the payload begins 16 bytes behind its block
+pub payload-narrow : (start align : ℕ) → start % 32 ≡ 0 → IsPowerOfTwo align → align ≤ 16 → payload_of start align ≡ start + 16
+payload-narrow start align whole power few = omega (arith, payload_of-le start align whole power, payload_of-after start align)
+
+usable-narrow : (f : Range) (size align : ℕ) (bs : List ℕ) → f.start % 32 ≡ 0 → IsPowerOfTwo align → align ≤ 16
+    → (usable (placed f size align bs)).len ≡ payload_len size
+usable-narrow f size align bs whole power few = grind (arith, payload-narrow)
+
+pub units-long : (fllen sllen : ℕ) (v : HeapView) (s : State) (size addr : ℕ) → Steps fllen sllen v (Allocates sllen s size 16 (Some addr))
+    → length (bytes_at v.state addr) ≡ payload_len size
+unfolding Steps Stands
+units-long fllen sllen v s size addr (p, stands) =
+    let u = placed p.range size 16 p.bytes in
+    let i : IsIn u v.state.used = subst (λ (x : State). IsIn u x.used) (sym p.after) (inl refl) in
+    let is = stands.well_formed.used u i in
+    ap length (bytes_at-held stands.well_formed addr u (i, sym p.answer)) ∙ is.bytes ∙ usable-narrow p.range size 16 p.bytes is.whole.start is.power (omega arith)
+
+pub payload_len-whole : (size : ℕ) → payload_len size % 16 ≡ 0
+payload_len-whole size = omega arith
+
+-- ---- a payload of units gets another size in place, while its first bytes are out
+
+-- a live ticket of the alignment 16 shows the payload at the address, of that length
+module _ {fllen sllen : ℕ} {m : Space} {table : Table} {s : State} {es : List Entry} {k start len : ℕ} (p : IsShown fllen sllen m table s es k (extent start len 16)) where
+  of : IsUsed (block p)
+  of = p.stands.well_formed.used (block p) (held p).0
+
+  pub begins : (block p).block.start + 16 ≡ start
+  begins = sym (payload-narrow (block p).block.start (block p).align of.whole.start of.power (omega (arith, wide p))) ∙ sym of.placed ∙ (held p).1
+
+  behind : start + (len + 8) ≡ end_of (block p).block + 8
+  behind = omega (arith, ends p)
+
+  -- the word behind it names the block, and can be read
+  pub names : word_at m (start + (len + 8)) ≡ (block p).block.start
+  names = ap (word_at m) behind ∙ p.stands.previous.used (block p) (held p).0
+
+  pub readable : IsReadable m (start + (len + 8))
+  readable =
+      let place = used_in_memory p.stands.well_formed (block p) (held p).0 in let at = behind in
+      is_word m (start + (len + 8)) (
+        omega (arith, at, of.whole.start, of.whole.len),
+        (omega (arith, at, place.0), omega (arith, at, place.1)),
+        own-word m (range_at (end_of (block p).block) 16) (start + (len + 8)) (here_behind_used p.stands (block p) (held p).0) (omega (arith, at)) (omega (arith, at)),
+      )
+      (omega (arith, names, place.1, p.stands.well_formed.addressable))
+
+  pub begins_at : (b : ℕ) → b ≡ word_at m (start + (len + 8)) → ((block p).block.start ≡ b) × (b + 16 ≡ start)
+  begins_at b word = let e : (block p).block.start ≡ b = sym names ∙ sym word in (e, omega (arith, e, begins))
+
+  pub start-fits : start < 2 ^ 64
+  start-fits = omega (arith, lies p, p.stands.well_formed.addressable)
+
+  -- where it ends with another size
+  reaches : (size : ℕ) → end_of (resized (block p) size) ≡ start + payload_len size
+  reaches size = grind (arith, block, p, held, begins)
+
+  -- its own bytes suffice for a lesser size
+  pub shrinks : {t : State} (size : ℕ) → payload_len size ≤ len → ReallocatesWithoutMove s start size None t → ⊥
+  shrinks {t} size shorter did = go did.block (unmoved_plan s did.block size) refl did.step (Holds-unique p.stands.well_formed start did.block (block p) did.holds (held p))
+    where
+      go : (u : Used) (o : Option Plan) → unmoved_plan s u size ≡ o → ReallocatesUnmovedBy s u o None t → u ≡ block p → ⊥
+      go u (Some q) e did same = absurd did
+      go u None e did same =
+          let none : unmoved_plan s (block p) size ≡ None = subst (λ b. unmoved_plan s b size ≡ None) same e in
+          let some : Some (kept_whole s (block p) size) ≡ None =
+          sym (ap (λ o. or_else o (into_next s (block p) size)) (in_place-fits s (block p) size (omega (arith, reaches size, ends p, shorter)))) ∙ none in absurd (cc)
+
+-- its units behind the first ones are back
+module _ {fllen sllen : ℕ} {m n : Space} {table : Table} {s : State} {es : List Entry} {k start len kept : ℕ}
+    (b : IsReturned fllen sllen m n table s es k (extent start len 16) kept) where
+  pub own-behind : (size : ℕ) → kept ≤ payload_len size → IsOwnedBehind n (block b.shown) size
+  own-behind size fits a lo hi = own-back b a (omega (arith, lo, reaches b.shown size, fits)) (omega (arith, lo, hi, reaches b.shown size, ends b.shown, b.within))
+
+  -- a call kept the payloads, but for its size
+  module _ {o : Space} {y : Table} {t : State} (w : StandsFor fllen sllen (contents o y) t) (keeps : KeepsPayloadsResizing s t start) where
+    now-held : (z : Used) × Holds t start z × (z.align ≡ (block b.shown).align)
+    now-held = still (stands-back b) w keeps start (block b.shown) (held b.shown)
+
+    pub same-long : t ≡ s → (z : Used) → Holds t start z → len ≡ (usable z).len
+    same-long is z holds =
+        sym (ap (λ u. (usable u).len) (Holds-unique b.shown.stands.well_formed start z (block b.shown) (subst (λ u. Holds u start z) is holds) (held b.shown)) ∙ long b.shown)
+
+    pub resized-long : (size : ℕ) → IsResized s t start size start → (z : Used) → Holds t start z → payload_len size ≡ (usable z).len
+    resized-long size is z holds =
+        let (u, there, aligned) = now-held in
+        let one = Holds-unique w.well_formed start z u holds there in
+        let is_used = w.well_formed.used z holds.0 in
+        let narrow : z.align ≡ 16 = ap (λ (v : Used). v.align) one ∙ aligned ∙ wide b.shown in
+        let first : z.block.start + 16 ≡ z.payload =
+        sym (payload-narrow z.block.start z.align is_used.whole.start is_used.power (omega (arith, narrow))) ∙ sym is_used.placed in
+        let many = ap length (bytes_at-held w.well_formed start z holds) ∙ is_used.bytes in
+        omega (arith, is.sized, is.few, many, first, is_used.whole.len, is_used.within)
+
+    module _ (now : ℕ) (fits : kept ≤ now) (as_long : (z : Used) → Holds t start z → now ≡ (usable z).len) where
+      abbrev z : Used
+      z = now-held.0
+
+      last : end_of z.block ≡ start + now
+      last = omega (arith, as_long z now-held.1, now-held.1.1, (w.well_formed.used z now-held.1.0).within)
+
+      pub now-lies : LiesIn (range_at start now) o.start (length o.bytes)
+      now-lies = let l = lies_used w z now-held.1.0 in (omega (arith, l.0, now-held.1.1), omega (arith, l.1, now-held.1.1, as_long z now-held.1))
+
+      -- its units behind the first ones are the memory's own, and leave again
+      pub now-own : o.start ≡ n.start → SameOwn n o → IsOwned o (range_at (start + kept) (now - kept))
+      now-own from own a lo hi =
+          own_at (stands-back b) w keeps (block b.shown) z (held b.shown) now-held.1 from own a (omega (arith, lo)) (omega (arith, hi, lo, last))
+          (λ inside. own-back b a lo (omega (arith, inside, lo, b.within, ends b.shown)))
+
+      now-side : (a : ℕ) → (a < z.payload) ⊎ (end_of z.block ≤ a) → (a < start + kept) ⊎ (start + kept + (now - kept) ≤ a)
+      now-side a (inl before) = inl (omega (arith, before, now-held.1.1))
+      now-side a (inr past) = inr (omega (arith, past, last, fits))
+
+      pub now-outside : (q : Space) → q.start ≡ o.start → q.out ≡ out_without o (range_at (start + kept) (now - kept)) → (a : ℕ) → o.start ≤ a → IsUnlent t a
+          → out_at q a ≡ out_at o a
+      now-outside q same out a from unlent =
+          out-left o q (range_at (start + kept) (now - kept)) same (omega (arith, now-lies.0)) out a from (now-side a (unlent z now-held.1.0))
+
+      pub now-stands : (q : Space) → q.start ≡ o.start → q.bytes ≡ o.bytes → q.out ≡ out_without o (range_at (start + kept) (now - kept)) → StandsFor fllen sllen (contents q y) t
+      now-stands q same bytes out =
+          stands_same o q w same bytes
+          (now-outside q same out)
+
+      -- its ticket is issued again, for this length
+      pub now-issued : AreIssued t (renewed_entries es k (extent start len 16) now)
+      now-issued =
+          issued_renewed k (extent start len 16) now b.shown.tickets b.shown.issued (payload_still (stands-back b) w keeps)
+          (payload_there (stands-back b) w keeps (extent start len 16) (found b.shown) refl now as_long)

@@ -15,8 +15,7 @@ use Rattle.core.proofs.alloc.Calls.{Goes-blank}
 use Rattle.std.proofs.raw_atomic.Walks.{proved}
 use Rattle.rlsf_base.proofs.RawBlock.Values.{mark_val, mark_own, mark_made}
 use Rattle.rlsf_heap.specs.Loans.{owns_from}
-use Rattle.rlsf_heap.proofs.ThinValues.{addr_val, addr_told, addr_typed, one_more_than}
-use Rattle.rlsf_heap.proofs.LoanValues.{loan_Tells, loan_vals}
+use Rattle.rlsf_heap.proofs.ThinValues.{addr_val, addr_told, addr_typed, one_more_than, loan_Tells, loan_vals}
 use Rattle.rlsf_base.specs.contracts.memory.thin_bytes.ThinBytes as bytes_type
 use Rattle.rlsf_heap.specs.contracts.loan.Loan as loan
 use Rattle.rlsf_heap.specs.contracts.loan.Loan.into_bytes as f

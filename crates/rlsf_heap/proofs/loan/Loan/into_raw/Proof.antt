@@ -14,8 +14,7 @@ use denote.Steps.{nothing, owned}
 use denote.Triple.Walked.{says, Stays, walk_of, stay_dropped, ends_at}
 use Rattle.core.proofs.alloc.Calls.{Goes-blank}
 use Rattle.std.proofs.raw_atomic.Walks.{proved}
-use Rattle.rlsf_heap.proofs.ThinValues.{addr_val, addr_told, addr_typed}
-use Rattle.rlsf_heap.proofs.LoanValues.{loan_Tells, loan_vals}
+use Rattle.rlsf_heap.proofs.ThinValues.{addr_val, addr_told, addr_typed, loan_Tells, loan_vals}
 use Rattle.rlsf_heap.specs.contracts.loan.Loan as loan
 use Rattle.rlsf_heap.specs.contracts.loan.Loan.into_raw as f
 use Rattle.rlsf_heap.proofs.loan.Loan.into_raw.Statement.{statement}

@@ -11,7 +11,7 @@ use denote.Triple.Walked.{Stays, walk_of, ends_at}
 use Rattle.std.proofs.raw_atomic.Walks.{proved}
 use Rattle.rlsf_heap.specs.Thin.{owns_bytes}
 use Rattle.rlsf_heap.specs.ThinInPlace.{LendsBytes}
-use Rattle.rlsf_heap.proofs.OwnedBytes.{lends}
+use Rattle.rlsf_heap.proofs.ThinValues.{lends}
 use Rattle.rlsf_heap.specs.contracts.thin.ThinPayload.lend_bytes as f
 use Rattle.rlsf_heap.proofs.thin.ThinPayload.lend_bytes.Statement.{statement}
 use Rattle.rlsf_heap.proofs.thin.ThinPayload.lend_bytes.Code as code

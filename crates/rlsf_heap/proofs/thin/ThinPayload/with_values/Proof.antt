@@ -15,8 +15,7 @@ use Rattle.core.proofs.alloc.Calls.{Goes-blank}
 use Rattle.std.proofs.raw_atomic.Walks.{proved}
 use Rattle.rlsf_heap.specs.Heap.{IsWritten}
 use Rattle.rlsf_heap.specs.Thin.{owns_reply}
-use Rattle.rlsf_heap.proofs.ThinValues.{addr_val, addr_own, addr_made, addr_told, addr_typed, payload_Tells, payload_vals}
-use Rattle.rlsf_heap.proofs.WrittenBytes.{owns_values, with_values}
+use Rattle.rlsf_heap.proofs.ThinValues.{addr_val, addr_own, addr_made, addr_told, addr_typed, payload_Tells, payload_vals, owns_values, with_values}
 use Rattle.rlsf_heap.specs.contracts.thin.ThinPayload as thin
 use Rattle.rlsf_heap.specs.contracts.thin.ThinPayload.with_values as f
 use Rattle.rlsf_heap.proofs.thin.ThinPayload.with_values.Statement.{statement}
