@@ -36,7 +36,7 @@ use Rattle.rlsf_base.specs.contracts.memory.block.RawParts.release_room as g
 use Rattle.rlsf_base.proofs.memory.block.RawParts.release_room.Met.{met as release_met}
 use Rattle.rlsf_local_heap.specs.contracts.lease.Lease as lease_type
 use Rattle.rlsf_local_heap.proofs.lease.Lease.TheLaws.{lowers as lease_lowers}
-use Rattle.rlsf_local_heap.proofs.LeasedRooms.{units-returned}
+use Rattle.rlsf_local_heap.proofs.SmallerUnits.{units-returned}
 use Rattle.rlsf_local_heap.specs.contracts.lease.Lease.into_payload as f
 use Rattle.rlsf_local_heap.proofs.lease.Lease.into_payload.Statement.{statement}
 use Rattle.rlsf_local_heap.proofs.lease.Lease.into_payload.Code as code
