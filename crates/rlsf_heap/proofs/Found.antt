@@ -1,7 +1,5 @@
--- A heap in which the length of a payload was found: only word accesses were counted.
-use Rattle.std.proofs.Common.{◌≡◌, ℕ, ◌+◌, Option, arith, refl, sym, ap, subst, ◌∙◌, ◌≢◌, Some, None, true≢false, get_or-take, min, slice_index, ◌<◌, ◌≤◌, List, length, Result, Ok}
-use Rattle.std.proofs.Common.{Err}
-use Rattle.rlsf_base.specs.declared.memory.range.Range.{Range}
+-- A heap in which the length of a payload was found, where only word accesses were counted; and a payload that stays or moves then.
+use Rattle.std.proofs.Common.{◌≡◌, ℕ, ◌+◌, Option, arith, refl, sym, ap, subst, ◌∙◌, ◌≢◌, Some, None, true≢false, get_or-take, slice_index, ◌<◌, ◌≤◌, List, length, Result, Ok, Err}
 use Rattle.rlsf_base.specs.Layout.{IsLayout}
 use Rattle.rlsf_base.specs.OpenSpace.{IsAway}
 use Rattle.rlsf_base.specs.Piece.{Piece, piece_range}
@@ -9,12 +7,12 @@ use Rattle.rlsf_base.specs.Sizes.{request_size}
 use Rattle.rlsf_model.specs.Sized.{live_bytes}
 use Rattle.rlsf_model.specs.State.{State}
 use Rattle.rlsf_heap.specs.Frame.{KeepsBytes, KeepsFrame, KeepsHeap, KeepsSized}
-use Rattle.rlsf_heap.specs.Heap.{HeapView, IsOwners, PayloadView, Steps, lent_bytes, payload_range, payload_view, Stands}
+use Rattle.rlsf_heap.specs.Heap.{HeapView, IsOwners, PayloadView, Steps, lent_bytes, payload_view, Stands}
 use Rattle.rlsf_heap.specs.Kept.{KeepsBytesBeside, KeepsSpareBytes, NoneBecomesRaw}
 use Rattle.rlsf_heap.specs.Reallocation.{owned_by}
-use Rattle.rlsf_heap.specs.Replies.{IsDeallocated, IsGone, IsReallocated, IsReallocatedHere, IsRefused, IsResized, IsReturned}
+use Rattle.rlsf_heap.specs.Replies.{IsDeallocated, IsGone, IsReallocated, IsReallocatedHere, IsRefused, IsResized}
 use Rattle.rlsf_heap.specs.Settled.{IsSettled}
-use Rattle.std.specs.Prelude.{is_some, IfErr, IfOk}
+use Rattle.std.specs.Prelude.{IfErr, IfOk}
 use Rattle.rlsf_model.specs.Allocate.{Allocates}
 use Rattle.rlsf_model.specs.Callers.{align_at, bytes_at}
 use Rattle.rlsf_model.specs.Release.{Deallocates}
@@ -76,8 +74,7 @@ module _ {v w : HeapView} {p q : PayloadView} {addr align : ℕ} (f : IsFound v 
 
   -- what is so of the payload that was found, and of a payload made of it, is so of the payload as its caller has it, and of that one by its address
   pub as_found : (to now : PayloadView) → now ≡ to → (So : HeapView → PayloadView → ℕ → ℕ → PayloadView → Type 0) → So w q q.start q.align to → So (found v) p addr align now
-  as_found to now thin So so =
-      subst (λ (x : HeapView × PayloadView × ℕ × ℕ × PayloadView). So x.0 x.1 x.2 x.3 x.4) (λ i. (f.heap i, f.same i, start_is i, align_is i, sym thin i)) so
+  as_found to now thin So so = grind (arith, start_is, align_is)
 
   -- a step of the payload that was found is one of the payload as its caller has it
   pub step_found : (fllen sllen : ℕ) (new : HeapView) (size : ℕ) (Step : State → ℕ → Option ℕ → State → Type 0) (from to : Option ℕ) → from ≡ to

@@ -1,7 +1,7 @@
--- Bytes that a call leaves as they are: those that no block is made of, and those beside a payload.
+-- Bytes that calls leave as they are: which are lent, the memory's own, raw or here; and what a call keeps of a heap.
 use Rattle.std.proofs.Common.{◌≡◌, ℕ, ◌<◌, ◌≤◌, Bool, true, false, List, arith, inl, inr, refl, sym, ap, subst, ◌∙◌, ◌+◌, ◌-◌, ◌⊎◌, length, slice_index, [], ◌∷◌, map}
 use Rattle.std.specs.Prelude.{◌&&◌, ◌||◌, leb}
-use Rattle.std.proofs.lemmas.Bool.{and_from, and_parts, cases_lt, false≢true, le-leb, leb-true, lt-leb, or_cases, or_left, or_right}
+use Rattle.std.proofs.lemmas.Bool.{and_from, and_parts, cases_lt, false≢true, le-leb, leb-true, or_cases, or_left, or_right}
 use Rattle.rlsf_base.specs.declared.memory.range.Range.{Range}
 use Rattle.rlsf_base.specs.OpenSpace.{SameOwn, out_raw, out_with, out_without, IsOwned, IsBeside, IsHere}
 use Rattle.rlsf_base.specs.Out.{is_own, Change, Kept, here, out, raw, kept_at, is_here}
@@ -17,7 +17,6 @@ use Rattle.rlsf_table.proofs.Tables.Tests.{same_truth}
 use Rattle.rlsf_blocks.specs.StandsFor.{contents, IsUnlent, StandsFor}
 use Rattle.rlsf_blocks.proofs.Words.Apart.{home_of_used, used_in_memory}
 use Rattle.rlsf_heap.specs.Heap.{is_lent_at, AreIssued, AreAmong, IsHeapOf, IsOutsideChunks, IsUsable, OwnsRest, heap_view, lent_bytes, HeapView, IsWritten, PayloadView}
-use Rattle.rlsf_heap.specs.Heap.{payload_range}
 use Rattle.rlsf_heap.specs.Kept.{KeepsOwn, KeepsBytesBeside, KeepsSpareBytes, NoneBecomesRaw}
 use Rattle.rlsf_base.proofs.Changes.{back-before, back-behind, back-there, changed-before, changed-behind, changed-there}
 use Rattle.rlsf_base.specs.Ledger.{Entry}
@@ -48,8 +47,7 @@ abbrev has : Space → State → ℕ → Bool
 has m s a = is_own (out_at m a) || leb 1 (coverage itself s.chunks a)
 
 pub lent_same : (m n : Space) (s t : State) → n.start ≡ m.start → ((a : ℕ) → m.start ≤ a → has n t a ≡ has m s a) → is_lent_at n t ≡ is_lent_at m s
-lent_same m n s t start each =
-    λ i a. guarded (leb m.start a) (leb n.start a) (has m s a) (has n t a) (ap (λ k. leb k a) start) (λ from. each a (leb-true m.start a from)) i
+lent_same m n s t start each = grind (arith, guarded, has, leb-true)
 
 -- what it says of an address
 has_parts : (m : Space) (s : State) (a : ℕ) → is_lent_at m s a ≡ true → (m.start ≤ a) × (has m s a ≡ true)
@@ -57,8 +55,7 @@ has_parts m s a is = let (from, has_it) = and_parts (leb m.start a) (has m s a) 
 
 -- a byte that is the memory's own is lent
 pub lent_own : (m : Space) (s : State) (a : ℕ) → m.start ≤ a → is_own (out_at m a) ≡ true → is_lent_at m s a ≡ true
-lent_own m s a from own =
-    and_from (leb m.start a) (has m s a) (le-leb m.start a from) (or_left (is_own (out_at m a)) (leb 1 (coverage itself s.chunks a)) own)
+lent_own m s a from own = grind (arith, and_from, has, le-leb, or_left)
 
 -- one that is lent is its own, if it is where a chunk has it
 pub lent_own_if : (m : Space) (s : State) (a : ℕ) → is_lent_at m s a ≡ true → (m.start ≤ a → 1 ≤ coverage itself s.chunks a → is_own (out_at m a) ≡ true)
@@ -312,6 +309,8 @@ module _ {fl_bits sl_bits fllen sllen : ℕ} {m n : Space} {x : Table} {j : Stat
         ]
       ]
 
+-- ---- memories with the same bytes
+
 -- memories with the same start and the same bytes have the same byte at each address
 pub same-byte : (m n : Space) → n.start ≡ m.start → n.bytes ≡ m.bytes → (a : ℕ) → byte_at n a ≡ byte_at m a
 same-byte m n start bytes a = λ i. slice_index (bytes i) (a - start i)
@@ -325,8 +324,7 @@ same-chunks s t a same = subst (λ (cs : List Range). (c : Range) → IsIn c cs 
 module _ (m n o : Space) (s t : State) where
   -- a memory with the same bytes, before or after
   pub spare-first : n.start ≡ m.start → n.bytes ≡ m.bytes → KeepsSpare n s o t → KeepsSpare m s o t
-  spare-first start bytes keeps a from to before after =
-      keeps a (omega (arith, from, start)) (omega (arith, to, start, ap length bytes)) before after ∙ same-byte m n start bytes a
+  spare-first start bytes keeps a from to before after = grind (arith, same-byte)
 
   pub spare-last : o.start ≡ n.start → o.bytes ≡ n.bytes → KeepsSpare m s n t → KeepsSpare m s o t
   spare-last start bytes keeps a from to before after = same-byte n o start bytes a ∙ keeps a from to before after

@@ -1,4 +1,4 @@
--- A heap after a call on its core.
+-- A heap after a call on its core: the state that the step leads to, and a payload that left.
 use Rattle.std.proofs.Common.{◌≡◌, ℕ, ◌≤◌, Bool, false, List, length, refl, sym, ap, ◌∙◌, arith, ◌+◌, ◌-◌, true, [], ◌∷◌, subst, ◌^◌, ◌<◌, ◌++◌, None, IfNone, IfSome, Option, inl}
 use Rattle.std.proofs.Common.{inr}
 use Rattle.rlsf_base.specs.Ledger.{Entry, Extent, entry_of}

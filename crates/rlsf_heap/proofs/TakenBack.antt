@@ -177,8 +177,7 @@ module _ {fl_bits sl_bits fllen sllen : ℕ} {m n : Space} {x : Table} {j : Stat
   held_in = subst (λ (t : State). Holds t pay.start used) (read_from-read_from n m j) (IsIn-map (with_bytes_of n) (block p) (read_from m j).used (held p).0, (held p).1)
 
   here_in : IsHere n (usable used)
-  here_in a lo hi = (λ i. kept_at (back.memory.out i) (a - back.memory.start i))
-      ∙ back-there m.out (pay.start - m.start) (length pay.bytes) (a - m.start) (omega (arith, lo, (held p).1, (lies p).0)) (omega (arith, hi, (held p).1, long p, (lies p).0))
+  here_in a lo hi = grind (arith, back-there, held, p, lies, long)
 
   -- bytes beside it are as they were
   beside_in : (a : ℕ) → m.start ≤ a → IsBeside (payload_range pay) a → byte_at n a ≡ byte_at m a
@@ -286,8 +285,7 @@ module _ {fl_bits sl_bits fllen sllen : ℕ} {m n : Space} {x : Table} {j : Stat
   module _ {o : Space} {y : Table} {k : State} {most copies : ℕ} (core : LeavesCoreCopying fllen sllen n o y j k most copies)
       (kept : KeepsPayloadsResizing (read_from n j) (read_from o k) pay.start) where
     pub here_there : IsHere o (span (read_from n j) pay.start pay.start)
-    here_there a lo hi =
-        core.here a (omega (arith, low, lo)) (here_in a (omega (arith, lo, held_in.1)) (omega (arith, hi, held_in.1, long p, ap length bytes_are)))
+    here_there a lo hi = grind (arith, low, here_in, held_in, long, p, bytes_are)
 
     pub there_at : IsAt o (read_from n j) (read_from o k) pay.start pay.align pay.start
     there_at =
@@ -441,8 +439,7 @@ module _ {fl_bits sl_bits fllen sllen : ℕ} {m n : Space} {x : Table} {j : Stat
 
         module _ (ledger label : ℕ) (named : name ≡ ledger) where
           identity_over : p.identity ≡ record { home = home_of m; ledger = ledger }
-          identity_over =
-              over.identity ∙ same_identity m o (core.costs.start ∙ back.memory.start) (core.costs.length ∙ back.long) (core.costs.view ∙ back.memory.view) ledger name named
+          identity_over = grind (arith, same_identity, long)
 
           pub resized_over : (size : ℕ) → size ≤ length (bytes_at (read_from o k) to) → length (bytes_at (read_from o k) to) < size + 32
               → Keeps (bytes_at (read_from n j) pay.start) (bytes_at (read_from o k) to) → IsHere o (span (read_from n j) pay.start to)

@@ -1,5 +1,5 @@
--- A struct of one number as a machine value. Assumes `Logic`.
-use Rattle.std.proofs.Common.{◌≡◌, ℕ, zero, suc, ◌+◌, ◌^◌, List, [], ◌∷◌, length, refl, sym, ap, subst, ◌∙◌, ◌≢◌, ◌<◌, arith, w64, set, false}
+-- What payloads and loans by their addresses own, what a walk keeps of its parameters, and a struct of one number as a machine value. Assumes `Logic`.
+use Rattle.std.proofs.Common.{T, ◌≡◌, ℕ, zero, suc, ◌+◌, ◌^◌, List, [], ◌∷◌, length, refl, sym, ap, subst, ◌∙◌, ◌≢◌, ◌<◌, arith, w64, set, false}
 use seplogic.Ra.Ura.{Ura}
 use base.Logic.{ent, id⊢, never, emp, SProp, sep, guard, via, guard_e, guard_i}
 use base.Fml.{Fml, flt, fsep}
@@ -34,8 +34,15 @@ use contract.Monad.{fact_i, fact_use}
 use Rattle.rlsf_base.proofs.RawBlock.Tickets.{redeems}
 use Rattle.rlsf_heap.specs.contracts.thin.ThinPayload as thin
 use Rattle.rlsf_heap.specs.contracts.loan.Loan as loan
+use contract.Lifetimes.{Lfts}
+use denote.Exit.{Last, left}
+use denote.Param.Mute.{blank}
+use denote.Signature.{Slot}
+use denote.Triple.End.{Kepts}
+use denote.Triple.Walked.{Stays, stay_dropped, AllGo}
+use Rattle.core.proofs.alloc.Calls.{Goes-blank}
 
--- ---- a payload of which each byte is here owns what a payload with these values owns. Assumes `Logic`
+-- ---- a payload of which each byte is here owns what a payload with these values owns.
 
 pub all_own : (n : ℕ) → IsOwn [] 0 n
 all_own n k lo hi = ap is_own (none-out k)
@@ -75,7 +82,7 @@ module _ {M : Type 1} {𝓤 : Ura M} (𝓛 : Logic 𝓤) where
       fpack ! (ℕ × CanComeBack (with_values p)) (λ u. fsep (piece_owns (bytes_of (with_values p))) (ticket_owns p.identity.ledger u.0 (extent p.start (length p.bytes) p.align)))
       (x.0, whole_again p p.bytes refl x.1) $ done !)
 
--- ---- the owner of a payload with values can take its bytes out and put others of the same number back. Assumes `Logic`
+-- ---- the owner of a payload with values can take its bytes out and put others of the same number back.
 
 module _ {M : Type 1} {𝓤 : Ura M} (𝓛 : Logic 𝓤) where
   lends_some : (h : Identity) (n : ℕ) (bs : List ℕ) (align : ℕ) → ent 𝓤 (sem 𝓛 (owns_bytes h (suc n) bs align)) (sem 𝓛 (LendsBytes h (suc n) bs align))
@@ -102,6 +109,24 @@ module _ {M : Type 1} {𝓤 : Ura M} (𝓛 : Logic 𝓤) where
   pub lends : (h : Identity) (addr : ℕ) (bs : List ℕ) (align : ℕ) → addr ≢ 0 → ent 𝓤 (sem 𝓛 (owns_bytes h addr bs align)) (sem 𝓛 (LendsBytes h addr bs align))
   lends h zero bs align some = absurd (some refl)
   lends h (suc n) bs align some = lends_some h n bs align
+
+-- ---- what a walk keeps of its parameters
+
+-- nothing is had of the parameters at exit
+abbrev pub dropped : {n : ℕ} (ss : List (Slot n)) (ks : Kepts ss) → Stays ss ks
+dropped [] ks = tt
+dropped (s ∷ ss) ks = (stay_dropped s ks.0, dropped ss ks.1)
+
+-- and nothing is said of them
+abbrev pub Blank : {n : ℕ} (ss : List (Slot n)) → Kepts ss → Type 0
+Blank [] ks = Unit {0}
+Blank {n} (s ∷ ss) ks = ((κs : Lfts n) (x : (s.row κs).Denot) (f : Last ((s.row κs).exit ks.0) x) → T (blank (left ((s.row κs).exit ks.0) x f))) × Blank ss ks.1
+
+pub all_go : {M : Type 1} {𝓤 : Ura M} (𝓛 : Logic 𝓤) (n : ℕ) (ss : List (Slot n)) (ks : Kepts ss) → Blank ss ks → AllGo 𝓛 n ss ks (dropped ss ks)
+all_go 𝓛 n [] ks is = tt
+all_go 𝓛 n (s ∷ ss) ks is = (Goes-blank 𝓛 n s ks.0 is.0, all_go 𝓛 n ss ks.1 is.1)
+
+-- ---- a struct of one number
 
 abbrev pub addr_val : ℕ → Val
 addr_val n = vstruct (vcons (vint w64 n) vnil)
@@ -130,7 +155,7 @@ pub one_more_than : (n : ℕ) → n ≢ 0 → (k : ℕ) × (n ≡ suc k)
 one_more_than zero some = absurd (some refl)
 one_more_than (suc k) some = (k, refl)
 
--- ---- a loan by its address is its address. Assumes `Logic`
+-- ---- a loan by its address is its address.
 
 abbrev pub loan_vals : (loan.the_row).Denot → List Val
 loan_vals d = addr_val d.addr ∷ []
@@ -138,7 +163,7 @@ loan_vals d = addr_val d.addr ∷ []
 pub loan_Tells : Tells loan.the_row (Is loan.the_row) loan_vals
 loan_Tells = loan_lowers.val_is
 
--- ---- a ticket shows a live entry of its ledger, and both stay. Assumes `Logic`
+-- ---- a ticket shows a live entry of its ledger, and both stay.
 
 pub shows_live : {M : Type 1} {𝓤 : Ura M} (𝓛 : Logic 𝓤) (δ : ℕ) (es : List Entry) (i : ℕ) (v : Extent)
     → ent 𝓤 (sep 𝓤 (sem 𝓛 (ledger_owns δ 0 es)) (sem 𝓛 (ticket_owns δ i v)))

@@ -1,14 +1,14 @@
--- The live entries of a ledger, once a ticket is redeemed or issued.
+-- Tickets, and what they show: live entries of a ledger, payloads that are live and apart, and payloads that get another size.
 use Rattle.std.proofs.Common.{◌≡◌, ◌≢◌, ℕ, ◌+◌, ◌-◌, ◌⊎◌, true, false, true≢false, List, [], ◌∷◌, ◌++◌, length, length-append, get_or, set, arith, inl, inr, refl, sym, ap, subst, ◌∙◌, ◌<◌, ◌≤◌}
 use Rattle.std.proofs.Common.{Some, ◌%◌, ◌^◌, Option, None}
 use Rattle.std.proofs.lemmas.Bool.{cases_eq, cases_lt}
 use Rattle.std.proofs.lemmas.List.{get_or-set_same, get_or-set_other, get_or_append_left, get_or-append_right, length-set}
 use Rattle.rlsf_base.specs.Ledger.{Entry, Extent, entry_of, nowhere, IsIssued, extent}
 use Rattle.rlsf_model.specs.State.{State, Used, Holds, usable}
-use Rattle.rlsf_heap.specs.Heap.{AreIssued, IsPayload, LiesInChunk, PayloadView, HeapView, Identity, IsTicketOf, IsWritten, Stands, Steps, payload_range, payload_view}
+use Rattle.rlsf_heap.specs.Heap.{AreIssued, IsPayload, LiesInChunk, PayloadView, HeapView, Identity, IsTicketOf, Stands, Steps, payload_range, payload_view}
 use Rattle.rlsf_base.specs.declared.memory.range.Range.{Range}
 use Rattle.rlsf_base.specs.MemoryCalls.{IsSpaceWith}
-use Rattle.rlsf_base.specs.OpenSpace.{IsOwned, out_raw, Home, home_of, SameOwn, IsReadable, out_without}
+use Rattle.rlsf_base.specs.OpenSpace.{IsOwned, out_raw, home_of, SameOwn, IsReadable, out_without}
 use Rattle.rlsf_base.specs.Out.{raw, is_own, kept_at}
 use Rattle.rlsf_base.specs.Range.{LiesIn, end_of, range_at, AreApart}
 use Rattle.rlsf_base.specs.Space.{Space, out_at, word_at}
@@ -28,7 +28,7 @@ use Rattle.rlsf_blocks.proofs.Words.Apart.{home_of_used, used_used, used_in_memo
 use Rattle.rlsf_heap.specs.Renewed.{IsRedeemed}
 use Rattle.rlsf_base.specs.declared.memory.ledger.Ticket.{Ticket}
 use Rattle.rlsf_base.specs.declared.memory.view.View.{View}
-use Rattle.rlsf_base.specs.Piece.{CanCome, IsFull, Piece, piece_range}
+use Rattle.rlsf_base.specs.Piece.{CanCome, Piece, piece_range}
 use Rattle.rlsf_model.specs.Allocate.{Allocates, placed}
 use Rattle.rlsf_model.specs.Lists.{IsIn}
 use Rattle.rlsf_blocks.specs.Steps.LiveBlock.{AtEachBlock, IsLiveIn}
@@ -38,7 +38,6 @@ use Rattle.rlsf_heap.specs.Thin.{reply_of}
 use Rattle.rlsf_tlsf.specs.CoreResizes.{KeepsPayloadsResizing}
 use Rattle.rlsf_heap.specs.ThinUnknownAlign.{renewed_entries}
 use Rattle.rlsf_base.specs.PowerOfTwo.{IsPowerOfTwo}
-use Rattle.rlsf_base.specs.Rounding.{round32}
 use Rattle.rlsf_model.specs.Payload.{payload_of}
 use Rattle.rlsf_heap.specs.Units.{payload_len}
 use Rattle.rlsf_base.proofs.Lending.Present.{own-word}
@@ -326,7 +325,7 @@ module _ (of : PayloadView) (q : Piece) (one : q ≡ bytes_of of) where
   pub comes_back : CanComeBack of → CanCome q q.home.view (piece_range q)
   comes_back whole = subst (λ (o : Piece). CanCome o o.home.view (piece_range o)) (sym one) whole
 
--- ---- the payload at an address may have another size: the others are as they were, and its bytes are the memory's own
+-- ---- a payload gets another size: the others are as they were, and its bytes are the memory's own
 
 -- a ticket is renewed, and the other payloads are as they were
 pub issued_renewed : {s t : State} {es : List Entry} (key : ℕ) (shown : Extent) (len : ℕ) → AreIssued s es → IsIssued es key shown
@@ -336,8 +335,6 @@ issued_renewed {s} {t} {es} key shown len tickets is others there =
     let apart = redeemed_apart es key shown is s tickets in
     issued-more (set es key (entry_of shown false)) (extent shown.addr len shown.align) t
     (record { issued = λ j e was. others e (less.issued j e was) (apart j e was); apart = less.apart }) there apart
-
--- ---- the payload at an address may have another size
 
 module _ {fllen sllen : ℕ} {m o : Space} {x y : Table} {s t : State} {addr : ℕ} (v : StandsFor fllen sllen (contents m x) s) (w : StandsFor fllen sllen (contents o y) t)
     (kept : KeepsPayloadsResizing s t addr) where

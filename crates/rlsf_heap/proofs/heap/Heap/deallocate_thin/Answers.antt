@@ -1,4 +1,4 @@
-use Rattle.std.proofs.Common.{Some, arith, refl, sym, ap, subst, ◌∙◌}
+use Rattle.std.proofs.Common.{Some, arith, refl, ap, subst, ◌∙◌}
 use Rattle.rlsf_base.specs.Piece.{Piece, piece_range}
 use Rattle.rlsf_model.specs.Release.{Deallocates}
 use Rattle.rlsf_heap.specs.Frame.{KeepsFrameBeside}

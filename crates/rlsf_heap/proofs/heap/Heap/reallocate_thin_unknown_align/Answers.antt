@@ -1,7 +1,7 @@
 use Rattle.std.proofs.Common.{◌≤◌, arith, true≢false, refl, sym, ap, subst, ◌∙◌}
 use Rattle.rlsf_model.specs.Callers.{align_at}
 use Rattle.rlsf_model.specs.State.{AreAlike}
-use Rattle.rlsf_heap.specs.Heap.{IsWritten, PayloadView, payload_range}
+use Rattle.rlsf_heap.specs.Heap.{IsWritten, PayloadView}
 use Rattle.rlsf_heap.specs.Kept.{KeepsBytesBeside}
 use Rattle.rlsf_heap.specs.Reallocation.{owned_by}
 use Rattle.rlsf_heap.specs.Replies.{IsReallocated}
