@@ -1,4 +1,4 @@
--- What payloads and loans by their addresses own, what a walk keeps of its parameters, and a struct of one number as a machine value. Assumes `Logic`.
+-- What payloads and loans by their addresses own, what a manual proof keeps of its parameters, and a struct of one number as a machine value. Assumes `Logic`.
 use Rattle.std.proofs.Common.{T, ◌≡◌, ℕ, zero, suc, ◌+◌, ◌^◌, List, [], ◌∷◌, length, refl, sym, ap, subst, ◌∙◌, ◌≢◌, ◌<◌, arith, w64, set, false}
 use seplogic.Ra.Ura.{Ura}
 use base.Logic.{ent, id⊢, never, emp, SProp, sep, guard, via, guard_e, guard_i}
@@ -110,7 +110,7 @@ module _ {M : Type 1} {𝓤 : Ura M} (𝓛 : Logic 𝓤) where
   lends h zero bs align some = absurd (some refl)
   lends h (suc n) bs align some = lends_some h n bs align
 
--- ---- what a walk keeps of its parameters
+-- ---- what a manual proof keeps of its parameters
 
 -- nothing is had of the parameters at exit
 abbrev pub dropped : {n : ℕ} (ss : List (Slot n)) (ks : Kepts ss) → Stays ss ks

@@ -20,8 +20,9 @@ use Rattle.rlsf_heap.specs.Kept.{KeepsBytesBeside, KeepsOwn, NoneBecomesRawBesid
 use Rattle.rlsf_heap.specs.Units.{IsInPlace, payload_len}
 use Rattle.rlsf_heap.proofs.Kept.{raw-tail, same-byte, spare-first, spare-last, lent_kept, outside_unlent, rest_kept}
 use Rattle.rlsf_heap.proofs.OnCores.{heap-over, same_identity, stays}
-use Rattle.rlsf_heap.proofs.Tickets.{payload_len-whole, IsReturned, block, held, lies, live, outside-back, stands-back, begins_at, now-issued, now-lies, now-outside, now-own}
-use Rattle.rlsf_heap.proofs.Tickets.{now-stands, own-behind, readable, resized-long, same-long, shrinks, start-fits}
+use Rattle.rlsf_heap.proofs.Tickets.{IsReturned, block, held, lies, live, outside-back, stands-back}
+use Rattle.rlsf_heap.proofs.Released.{payload_len-whole, begins_at, now-issued, now-lies, now-outside, now-own, now-stands, own-behind, readable, resized-long, same-long, shrinks}
+use Rattle.rlsf_heap.proofs.Released.{start-fits}
 use Rattle.rlsf_heap.proofs.heap.Heap.resize_units.Given as given
 use Rattle.rlsf_heap.proofs.heap.Heap.resize_units.Goals as goal
 use Rattle.rlsf_heap.proofs.heap.Heap.resize_units.Goals.{After-put_unit_payload-block, After-resize_block_in}
