@@ -39,7 +39,7 @@ use denote.Triple.Spec.{Meets, triple_of}
 use denote.Triple.Walked.{walk_of}
 use Rattle.rlsf_base.proofs.RawBlock.Walks.{then_runs}
 use Rattle.rlsf_local_heap.specs.contracts.local.LocalHeapAllocator.grow.{ended, clauses}
-use Rattle.rlsf_local_heap.proofs.Walks.{dropped, all_go}
+use Rattle.rlsf_heap.proofs.ThinValues.{dropped, all_go}
 use Rattle.core.specs.contracts.result.Result as result
 use Rattle.rlsf_local_heap.specs.contracts.buffer.Buffer as buffer
 use Rattle.core.specs.contracts.alloc.AllocError as error

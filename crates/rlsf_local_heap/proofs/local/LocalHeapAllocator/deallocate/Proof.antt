@@ -41,7 +41,7 @@ use Rattle.rlsf_local_heap.specs.Ownership.{block_beside, block_token}
 use Rattle.rlsf_local_heap.proofs.SmallerUnits.{returned, holds, whole}
 use Rattle.rlsf_local_heap.specs.contracts.local.LocalHeap.give as callee
 use Rattle.rlsf_local_heap.proofs.local.LocalHeap.give.Met.{met as gives}
-use Rattle.rlsf_local_heap.proofs.Walks.{dropped, all_go}
+use Rattle.rlsf_heap.proofs.ThinValues.{dropped, all_go}
 use Rattle.rlsf_local_heap.specs.contracts.local.LocalHeapAllocator.deallocate.{ended, clauses}
 use Rattle.rlsf_local_heap.specs.contracts.local.LocalHeapAllocator.deallocate.Key.{name as #self}
 use Rattle.rlsf_local_heap.proofs.local.LocalHeapAllocator.deallocate.Statement.{statement}

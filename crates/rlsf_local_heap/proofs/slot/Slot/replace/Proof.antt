@@ -22,8 +22,8 @@ use Rattle.core.proofs.alloc.Shapes.{after}
 use Rattle.core.proofs.cell.Inside.{one}
 use Rattle.std.proofs.raw_atomic.Walks.{leaves}
 use Rattle.rlsf_local_heap.specs.Constants.{Constants}
-use Rattle.rlsf_local_heap.proofs.Walks.{dropped, all_go, with_token, proved_with_token}
-use Rattle.rlsf_local_heap.proofs.SlotContents.{Held, Over, ends, held_Lawful, quiet, opens_slot, shuts_slot}
+use Rattle.rlsf_heap.proofs.ThinValues.{dropped, all_go}
+use Rattle.rlsf_local_heap.proofs.SlotContents.{with_token, proved_with_token, Held, Over, ends, held_Lawful, quiet, opens_slot, shuts_slot}
 use Rattle.rlsf_local_heap.specs.contracts.slot.Slot.replace.{ended, clauses}
 use Rattle.rlsf_local_heap.specs.contracts.slot.Slot.replace.Key.{name as #self}
 use Rattle.rlsf_local_heap.proofs.slot.Slot.replace.Statement.{statement}
