@@ -1,6 +1,5 @@
 -- Blocks of one length fill a partition's pool, whatever is allocated and freed.
-use Rattle.std.proofs.Common.{◌≡◌, ℕ, ◌+◌, ◌*◌, ◌%◌, ◌<◌, ◌≤◌, cond, ◌/◌, [], ◌∷◌, length}
-use Rattle.std.proofs.Common.{Option, Some, None, IfNone, IfSome, IsNone, arith, refl, sym, ◌∙◌, ap, subst, inl, inr}
+use Rattle.std.proofs.Common.{◌≡◌, ℕ, ◌+◌, ◌*◌, ◌%◌, ◌<◌, ◌≤◌, ◌/◌, length, Option, Some, None, IfNone, IfSome, IsNone, arith, refl, sym, ◌∙◌, ap, subst}
 use Rattle.std.proofs.lemmas.Bool.{false≢true, le-leb}
 use Rattle.std.proofs.Math.Nat.{mul-le-mul_right}
 use Rattle.rlsf_base.specs.PowerOfTwo.{IsPowerOfTwo}
@@ -10,11 +9,10 @@ use Rattle.rlsf_base.specs.Sizes.{pool_size_for_objects, request_size}
 use Rattle.rlsf_base.specs.Space.{range_of}
 use Rattle.rlsf_base.specs.declared.memory.range.Range.{Range}
 use Rattle.rlsf_model.specs.Allocate.{Allocates}
-use Rattle.rlsf_model.specs.Insert.{aligned_part, with_chunks, Inserts}
+use Rattle.rlsf_model.specs.Insert.{aligned_part, Inserts}
 use Rattle.rlsf_model.specs.Release.{Deallocates}
 use Rattle.rlsf_model.specs.Sized.{live_count}
 use Rattle.rlsf_model.specs.State.{State, empty}
-use Rattle.rlsf_model.specs.Uniform.{IsUniform}
 use Rattle.rlsf_model.specs.WellFormed.{IsWellFormed}
 use Rattle.rlsf_model.proofs.Uniform.{allocation_keeps_uniform, deallocation_keeps_uniform, uniform_is_full}
 use Rattle.rlsf_base.proofs.SizeMaps.ChunkLengths.{IsObjectPool-some}
