@@ -1,16 +1,27 @@
--- A heap in which the length of a payload was found: only word accesses were counted.
-use Rattle.std.proofs.Common.{◌≡◌, ℕ, ◌+◌, Option, arith, refl, sym, ap, subst, ◌∙◌}
-use Rattle.rlsf_base.specs.declared.memory.range.Range.{Range}
+-- A heap in which the length of a payload was found, where only word accesses were counted; and a payload that stays or moves then.
+use Rattle.std.proofs.Common.{◌≡◌, ℕ, ◌+◌, Option, arith, refl, sym, ap, subst, ◌∙◌, ◌≢◌, Some, None, true≢false, get_or-take, slice_index, ◌<◌, ◌≤◌, List, length, Result, Ok, Err}
 use Rattle.rlsf_base.specs.Layout.{IsLayout}
 use Rattle.rlsf_base.specs.OpenSpace.{IsAway}
 use Rattle.rlsf_base.specs.Piece.{Piece, piece_range}
+use Rattle.rlsf_base.specs.Sizes.{request_size}
+use Rattle.rlsf_model.specs.Sized.{live_bytes}
 use Rattle.rlsf_model.specs.State.{State}
 use Rattle.rlsf_heap.specs.Frame.{KeepsBytes, KeepsFrame, KeepsHeap, KeepsSized}
-use Rattle.rlsf_heap.specs.Heap.{HeapView, IsOwners, PayloadView, Steps, lent_bytes, payload_range, payload_view}
+use Rattle.rlsf_heap.specs.Heap.{HeapView, IsOwners, PayloadView, Steps, lent_bytes, payload_view, Stands}
 use Rattle.rlsf_heap.specs.Kept.{KeepsBytesBeside, KeepsSpareBytes, NoneBecomesRaw}
 use Rattle.rlsf_heap.specs.Reallocation.{owned_by}
-use Rattle.rlsf_heap.specs.Replies.{IsReallocated, IsReallocatedHere, IsRefused, IsResized, IsReturned}
+use Rattle.rlsf_heap.specs.Replies.{IsDeallocated, IsGone, IsReallocated, IsReallocatedHere, IsRefused, IsResized}
 use Rattle.rlsf_heap.specs.Settled.{IsSettled}
+use Rattle.std.specs.Prelude.{IfErr, IfOk}
+use Rattle.rlsf_model.specs.Allocate.{Allocates}
+use Rattle.rlsf_model.specs.Callers.{align_at, bytes_at}
+use Rattle.rlsf_model.specs.Release.{Deallocates}
+use Rattle.rlsf_model.proofs.CallerWords.{gone_seen}
+use Rattle.rlsf_heap.specs.ThinReplies.{MovesElsewhere}
+use Rattle.rlsf_model.specs.Reallocate.{Keeps, Plan}
+use Rattle.rlsf_model.specs.NoMove.{ReallocatesUnmovedBy, ReallocatesWithoutMove, unmoved_plan}
+use Rattle.rlsf_heap.specs.ThinUnknownAlign.{StaysOrMoves, StaysOrMovesBy}
+use Rattle.rlsf_heap.specs.declared.thin.ThinPayload.{ThinPayload}
 
 -- the heap once three words were read
 abbrev pub found : HeapView → HeapView
@@ -21,39 +32,16 @@ pub settled_found : (v w : HeapView) → w ≡ found v → IsSettled v.memory �
 unfolding IsSettled
 settled_found v w is settled = subst (λ (o : HeapView). IsSettled o.memory) (sym is) settled
 
--- bytes that are kept since then are kept since before: those that no block is made of, those that were not raw, and those beside a range
-pub spare_found : (v w new : HeapView) → w ≡ found v → KeepsSpareBytes w new → KeepsSpareBytes v new
-unfolding KeepsSpareBytes
-spare_found v w new is keeps = subst (λ (x : HeapView). KeepsSpareBytes x new) is keeps
-
--- the same bytes are lent
-lent_found : (v : HeapView) → lent_bytes (found v) ≡ lent_bytes v
-unfolding lent_bytes
-lent_found v = refl
-
-pub raw_found : (v w new : HeapView) → w ≡ found v → NoneBecomesRaw w new → NoneBecomesRaw v new
-unfolding NoneBecomesRaw
-raw_found v w new is none = subst (λ (x : HeapView). NoneBecomesRaw x new) is none
-
-pub beside_found : (v w new : HeapView) → w ≡ found v → (r : Range) → KeepsBytesBeside w new r → KeepsBytesBeside v new r
-unfolding KeepsBytesBeside
-beside_found v w new is r keeps = subst (λ (x : HeapView). KeepsBytesBeside x new r) is keeps
-
--- so is the heap
+-- what is kept since then is kept since before
 pub heap_found : (v w new : HeapView) → w ≡ found v → KeepsHeap w new → KeepsHeap v new
+unfolding KeepsSpareBytes lent_bytes
 heap_found v w new is kept =
     let k = subst (λ (x : HeapView). KeepsHeap x new) is kept in
-    record {
-      identity = k.identity;
-      place = k.place;
-      spare = spare_found v w new is kept.spare;
-      lent = k.lent;
-      lent_bytes = k.lent_bytes ∙ lent_found v;
-      grow = omega (arith, k.grow);
-    }
+    record { identity = k.identity; place = k.place; spare = k.spare; lent = k.lent; lent_bytes = k.lent_bytes; grow = omega (arith, k.grow) }
 
 pub bytes_found : (v w new : HeapView) → w ≡ found v → KeepsBytes w new → KeepsBytes v new
-bytes_found v w new is kept = record { raw = raw_found v w new is kept.raw; settled = λ settled. kept.settled (settled_found v w is settled) }
+unfolding NoneBecomesRaw IsSettled
+bytes_found v w new is kept = let k = subst (λ (x : HeapView). KeepsBytes x new) is kept in record { raw = k.raw; settled = k.settled }
 
 pub frame_found : (v w new : HeapView) → w ≡ found v → KeepsFrame w new → KeepsFrame v new
 frame_found v w new is kept = record {
@@ -63,10 +51,12 @@ frame_found v w new is kept = record {
   copied = kept.copied ∙ ap (λ (x : HeapView). x.memory.copied) is;
 }
 
--- the bytes of a payload that were away were its owner's
-pub owners : (v : HeapView) (q : Piece) (align ledger : ℕ) (p : PayloadView) → payload_view q align ledger ≡ p → IsAway v.memory (piece_range q) → IsOwners v p
+-- a deallocation of the bytes of a payload is one of the payload
+pub deallocated : (old new : HeapView) (q : Piece) (align ledger : ℕ) (p : PayloadView) {addr : ℕ} → payload_view q align ledger ≡ p → p.start ≡ addr
+    → IsAway old.memory (piece_range q) → align_at old.state q.start ≡ Some align → IsGone old.state new.state q.start
+    → live_bytes new.state + request_size (length q.bytes) 16 ≤ live_bytes old.state → IsDeallocated old new addr p
 unfolding IsOwners
-owners v q align ledger p is away = subst (λ (o : PayloadView). IsAway v.memory (payload_range o)) is away
+deallocated old new q align ledger p parts at away live gone freed = grind arith
 
 -- the length of a payload was found in the memory, and the payload is returned with it and with its alignment
 pub record IsFound (v w : HeapView) (p q : PayloadView) (addr align : ℕ) : Type 0 where
@@ -84,8 +74,7 @@ module _ {v w : HeapView} {p q : PayloadView} {addr align : ℕ} (f : IsFound v 
 
   -- what is so of the payload that was found, and of a payload made of it, is so of the payload as its caller has it, and of that one by its address
   pub as_found : (to now : PayloadView) → now ≡ to → (So : HeapView → PayloadView → ℕ → ℕ → PayloadView → Type 0) → So w q q.start q.align to → So (found v) p addr align now
-  as_found to now thin So so =
-      subst (λ (x : HeapView × PayloadView × ℕ × ℕ × PayloadView). So x.0 x.1 x.2 x.3 x.4) (λ i. (f.heap i, f.same i, start_is i, align_is i, sym thin i)) so
+  as_found to now thin So so = grind (arith, start_is, align_is)
 
   -- a step of the payload that was found is one of the payload as its caller has it
   pub step_found : (fllen sllen : ℕ) (new : HeapView) (size : ℕ) (Step : State → ℕ → Option ℕ → State → Type 0) (from to : Option ℕ) → from ≡ to
@@ -100,9 +89,7 @@ module _ {v w : HeapView} {p q : PayloadView} {addr align : ℕ} (f : IsFound v 
 
   -- the same of its bytes are here
   pub here_found : (to now : PayloadView) → now ≡ to → IsReallocatedHere w q to → IsReallocatedHere v p now
-  here_found to now thin here =
-      let h = as_found to now thin (λ x from addr align made. IsReallocatedHere x from made) here in
-      record { here = h.here; shrunk = h.shrunk; written = λ settled. h.written (settled_found v (found v) refl settled) }
+  here_found to now thin here = grind (arith, as_found, settled_found, found)
 
   -- it has the size, of the same heap and with the same alignment
   pub resized_found : (size : ℕ) (new : HeapView) (to now : PayloadView) → now ≡ to → IsResized w new size q.align q to → IsResized v new size align p now
@@ -115,9 +102,89 @@ module _ {v w : HeapView} {p q : PayloadView} {addr align : ℕ} (f : IsFound v 
 
   -- or it was refused
   pub refused_found : (new : HeapView) (to now : PayloadView) → now ≡ to → IsRefused w new q.start q.align q to → IsRefused v new addr align p now
-  refused_found new to now thin is = record {
-    identity = ap (λ (o : PayloadView). o.identity) thin ∙ is.identity ∙ ap (λ (x : HeapView). x.identity) f.heap;
-    requested = ap (λ (o : PayloadView). o.align) thin ∙ is.requested ∙ align_is;
-    returned = as_found to now thin (λ x from at wide made. IsReturned x.state new.state at from made) is.returned;
-    unchanged = beside_found v (found v) new refl (payload_range p) (as_found to now thin (λ x from at wide made. KeepsBytesBeside x new (payload_range from)) is.unchanged);
-  }
+  unfolding KeepsBytesBeside
+  refused_found new to now thin is = grind (arith, align_is, as_found)
+
+-- ---- a payload that moved into a new one, whatever its alignment is
+
+module _ (fllen sllen : ℕ) (old first mid last : HeapView) (is : first ≡ found old) (size align addr from to : ℕ) (at : from ≡ addr)
+    (made : Steps fllen sllen mid (Allocates sllen first.state size align (Some to))) (gone : Steps fllen sllen last (Deallocates mid.state from)) where
+  same_state : first.state ≡ old.state
+  same_state = ap (λ (v : HeapView). v.state) is
+
+  pub move_step : (now : ℕ) → now ≡ to → Steps fllen sllen last (MovesElsewhere sllen old.state addr size align (Some now))
+  unfolding Steps
+  move_step now there =
+      let step : MovesElsewhere sllen old.state addr size align (Some to) last.state = (
+        mid.state,
+        subst (λ s. Allocates sllen s size align (Some to) mid.state) same_state made.0,
+        subst (λ a. Deallocates mid.state a last.state) at gone.0,
+      ) in
+      (subst (λ n. MovesElsewhere sllen old.state addr size align (Some n) last.state) (sym there) step, gone.1)
+
+  -- the bytes of the others stay
+  pub others_stay : (a : ℕ) → a ≢ addr → bytes_at last.state a ≡ bytes_at mid.state a
+  unfolding Steps Stands
+  others_stay a apart =
+      (gone_seen made.1.well_formed last.state from (gone.0.block, gone.0.holds) gone.0).bytes a (λ e. apart (e ∙ at))
+
+-- a payload that is new isn't one that was live
+pub new_is_other : (s t : State) → t ≡ s → (a b align : ℕ) → align_at s a ≡ Some align → align_at t b ≡ None → b ≢ a
+new_is_other s t same a b align live new e = grind (arith, true≢false)
+
+-- ---- reallocation of a payload with the bytes that its owner wrote, as callers see it
+
+-- each byte that both have is kept
+pub Keeps-each : (old new : List ℕ) → Keeps old new → (k : ℕ) → k < length old → k < length new → slice_index new k ≡ slice_index old k
+Keeps-each old new keeps k low high = grind (arith, get_or-take, slice_index)
+
+-- ---- a payload whose alignment isn't known stays, or moves into a new one
+
+module _ (sllen : ℕ) (s : State) (addr size align : ℕ) where
+  stays_there : (to : ℕ) (t : State) → ReallocatesWithoutMove s addr size (Some to) t → StaysOrMoves sllen s addr size align (Some to) t
+  stays_there to t did = record { block = did.block; holds = did.holds; step = go (unmoved_plan s did.block size) did.step }
+    where
+      go : (o : Option Plan) → ReallocatesUnmovedBy s did.block o (Some to) t → StaysOrMovesBy sllen s did.block size align o (Some to) t
+      go None by = absurd by
+      go (Some p) by = by
+
+  moves_away : (mid t : State) (reply : Option ℕ) → ReallocatesWithoutMove s addr size None mid → MovesElsewhere sllen mid addr size align reply t
+      → StaysOrMoves sllen s addr size align reply t
+  moves_away mid t reply was moves = go (unmoved_plan s was.block size) refl was.step
+    where
+      go : (o : Option Plan) → unmoved_plan s was.block size ≡ o → ReallocatesUnmovedBy s was.block o None mid → StaysOrMoves sllen s addr size align reply t
+      go None none same =
+          let moved : MovesElsewhere sllen s was.block.payload size align reply t =
+          subst (λ (x : State × ℕ). MovesElsewhere sllen x.0 x.1 size align reply t) (λ i. (same i, sym was.holds.1 i)) moves in
+          record { block = was.block; holds = was.holds; step = subst (λ o. StaysOrMovesBy sllen s was.block size align o reply t) (sym none) moved }
+      go (Some p) some by = absurd by
+
+  module _ (fllen : ℕ) (new : HeapView) where
+    -- a reallocation without a move leaves the payload where it is
+    pub step_stays : (to : ℕ) → Steps fllen sllen new (ReallocatesWithoutMove s addr size (Some to)) → Steps fllen sllen new (StaysOrMoves sllen s addr size align (Some to))
+    unfolding Steps
+    step_stays to did = (stays_there to new.state did.0, did.1)
+
+    -- if it is refused, the payload moves
+    pub step_moves : (mid : HeapView) (reply : Option ℕ) → Steps fllen sllen mid (ReallocatesWithoutMove s addr size None)
+        → Steps fllen sllen new (MovesElsewhere sllen mid.state addr size align reply) → Steps fllen sllen new (StaysOrMoves sllen s addr size align reply)
+    unfolding Steps
+    step_moves mid reply was did = (moves_away mid.state new.state reply was.0 did.0, did.1)
+
+-- what is so of a returned payload
+module _ {P Q : ThinPayload → Type 0} where
+  pub if_ok : (r : Result ThinPayload ThinPayload) → ((p : ThinPayload) → P p → Q p) → IfOk r P → IfOk r Q
+  if_ok (Ok p) f is = f p is
+  if_ok (Err p) f is = tt
+
+  pub if_err : (r : Result ThinPayload ThinPayload) → ((p : ThinPayload) → P p → Q p) → IfErr r P → IfErr r Q
+  if_err (Ok p) f is = tt
+  if_err (Err p) f is = f p is
+
+-- a payload that moved is a reallocated one, also of the payload with the same bytes that was there before
+pub reallocated_as : (state : State) (mid was p : PayloadView) (size align : ℕ) → mid.bytes ≡ was.bytes → p.align ≡ align → IsReallocated state mid size align p
+    → IsReallocated state was size p.align p
+reallocated_as state mid was p size align same requested made =
+    let kept : Keeps was.bytes p.bytes = subst (λ (l : List ℕ). Keeps l p.bytes) same made.kept in
+    subst (λ a. IsReallocated state was size a p) (sym requested)
+    (record { live = made.live; long = made.long; aligned = made.aligned; sized = made.sized; few = made.few; kept = kept; each = Keeps-each was.bytes p.bytes kept })

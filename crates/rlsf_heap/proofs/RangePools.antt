@@ -3,7 +3,7 @@ use Rattle.std.proofs.Common.{◌≡◌, ℕ, ◌+◌, ◌-◌, List, [], ◌∷
 use Rattle.std.proofs.lemmas.Bool.{and_parts, cases_Bool, cases_lt, leb-true}
 use Rattle.std.proofs.lemmas.Option.{none-some, same_Some}
 use Rattle.std.specs.declared.num.NonZeroUsize.{NonZeroUsize}
-use Rattle.std.specs.Prelude.{◌⊎◌, nat_le, not}
+use Rattle.std.specs.Prelude.{◌⊎◌, not}
 use Rattle.rlsf_base.specs.declared.memory.range.Range.{Range}
 use Rattle.rlsf_base.specs.Addr.{at, reply}
 use Rattle.rlsf_base.specs.Range.{AreApart, end_of, range_at}
@@ -56,30 +56,13 @@ none_taken start (c ∷ cs) e a = absurd (none-some (end_of_last (end_of c) cs -
 
 no_pool : (fllen : ℕ) (s t : State) (r : Range) → IsUntouched s.chunks r → Inserts fllen s r None t → HasPool t.chunks r 0
 unfolding HasPool IsUntouched
-no_pool fllen s t r clear step =
-    let cs = cut (max_pool_size fllen) (aligned_part r) in (
-      omega arith,
-      λ a low high. absurd (omega (arith, low, high, round32-le r.start)),
-      λ a low high some. absurd (omega (
-        arith,
-        some,
-        ap (λ u. coverage itself u.chunks a) step.after ∙ coverage-with_chunks cs s a,
-        clear a low high,
-        none_taken r.start cs (sym step.answer) a,
-      )),
-    )
+no_pool fllen s t r clear step = grind (arith, round32-le, coverage-with_chunks, none_taken)
 
 -- an address that is in a chunk afterwards was in one before, where ranges that overlap none stay so
 was_covered : (s t : State) (a : ℕ) → (IsUntouched s.chunks (range_at a 1) → IsUntouched t.chunks (range_at a 1)) → 0 < coverage itself t.chunks a
     → 0 < coverage itself s.chunks a
 unfolding IsUntouched
-was_covered s t a stays some = elim (cases_lt 0 (coverage itself s.chunks a)) [
-  | inl before ↦ before
-  | inr none ↦
-      let clear : IsUntouched s.chunks (range_at a 1) =
-      λ b from to. let same : b ≡ a = omega (arith, from, to) in ap (λ k. coverage itself s.chunks k) same ∙ omega (arith, none) in
-      absurd (omega (arith, some, stays clear a (omega arith) (omega arith)))
-]
+was_covered s t a stays some = grind (arith, cases_lt)
 
 -- the pools of other ranges stay
 pub pools_inserted : (fllen : ℕ) (s t : State) (r : Range) (answer : Option ℕ) → Inserts fllen s r answer t
@@ -112,15 +95,7 @@ pool_gone s t r n pool stays gone a low high = elim (cases_lt 0 (coverage itself
 
 -- a chunk of another range's pool isn't removed
 chunk_stays : (q c : Range) (a : ℕ) → c.start ≤ a → a < end_of c → (end_of q ≤ c.start) ⊎ (a < q.start) → not (lies_within q c) ≡ true
-chunk_stays q c a low high apart = elim (cases_Bool (lies_within q c)) [
-  | inl it_lies ↦
-      let (from, to) = and_parts (nat_le q.start c.start) (nat_le (end_of c) (end_of q)) it_lies in
-      absurd (elim apart [
-        | inl before ↦ omega (arith, before, low, high, leb-true (end_of c) (end_of q) to)
-        | inr behind ↦ omega (arith, behind, low, leb-true q.start c.start from)
-      ])
-  | inr it_lies_not ↦ ap not it_lies_not
-]
+chunk_stays q c a low high apart = grind (arith, cases_Bool, and_parts, leb-true)
 
 pub pools_removed : (s t : State) (r : Range) (n : ℕ) → HasPool s.chunks r n → Removes s (walked (range_at r.start n)) t
     → ((q : Range) → IsUntouched s.chunks q → IsUntouched t.chunks q) → KeepsPools s.chunks t.chunks r

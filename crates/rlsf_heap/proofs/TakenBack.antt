@@ -51,19 +51,13 @@ use Rattle.rlsf_heap.specs.Reallocation.{owned_by}
 use Rattle.rlsf_heap.specs.Replies.{IsRefused, IsResized}
 use Rattle.rlsf_heap.specs.Settled.{IsSettled}
 use Rattle.rlsf_heap.specs.ThinUnknownAlign.{IfBytesSuffice}
-use Rattle.rlsf_heap.proofs.Arrivals.{IsHeap-arrived, Steps-arrived}
-use Rattle.rlsf_heap.proofs.Kept.{raw-left, raw-stays, raw-with, same-byte, spare-last, spare-then}
-use Rattle.rlsf_heap.proofs.LentBytes.{lent_kept}
-use Rattle.rlsf_heap.proofs.Read.{stands-without}
-use Rattle.rlsf_heap.proofs.Rest.{outside_unlent, own_without, rest_kept}
+use Rattle.rlsf_heap.proofs.OnCores.{IsHeap-arrived, Steps-arrived, heap-over, same_identity, stays}
+use Rattle.rlsf_heap.proofs.Kept.{raw-left, raw-stays, raw-with, same-byte, spare-last, spare-then, lent_kept, stands-without, outside_unlent, own_without, rest_kept, settled-back}
+use Rattle.rlsf_heap.proofs.Kept.{settled-here, settled-left, settled-stays}
 use Rattle.rlsf_tlsf.proofs.Placed.{lies_used}
-use Rattle.rlsf_heap.proofs.OnCores.{heap-over, same_identity, stays}
-use Rattle.rlsf_heap.proofs.PayloadsApart.{payload_as, redeemed_ticket, shown_live}
-use Rattle.rlsf_heap.proofs.Reallocated.{Keeps-each}
-use Rattle.rlsf_heap.proofs.ResizedParts.{own_at, still}
-use Rattle.rlsf_heap.proofs.Settled.{settled-back, settled-here, settled-left, settled-stays}
-use Rattle.rlsf_heap.proofs.Tickets.{issued-less, issued-more, redeemed_apart}
-use Rattle.rlsf_heap.proofs.Shown.{IsShown, block, held, live, long, usable_is, wide, lies}
+use Rattle.rlsf_heap.proofs.Tickets.{payload_as, redeemed_ticket, shown_live, own_at, still, issued-less, issued-more, redeemed_apart, IsShown, block, held, live, long, usable_is}
+use Rattle.rlsf_heap.proofs.Tickets.{wide, lies}
+use Rattle.rlsf_heap.proofs.Found.{Keeps-each}
 use Rattle.rlsf_heap.proofs.Released.{IsGiven, is_released, others-filled}
 
 -- the tickets are those of the same payloads, for any bytes
@@ -183,8 +177,7 @@ module _ {fl_bits sl_bits fllen sllen : ℕ} {m n : Space} {x : Table} {j : Stat
   held_in = subst (λ (t : State). Holds t pay.start used) (read_from-read_from n m j) (IsIn-map (with_bytes_of n) (block p) (read_from m j).used (held p).0, (held p).1)
 
   here_in : IsHere n (usable used)
-  here_in a lo hi = (λ i. kept_at (back.memory.out i) (a - back.memory.start i))
-      ∙ back-there m.out (pay.start - m.start) (length pay.bytes) (a - m.start) (omega (arith, lo, (held p).1, (lies p).0)) (omega (arith, hi, (held p).1, long p, (lies p).0))
+  here_in a lo hi = grind (arith, back-there, held, p, lies, long)
 
   -- bytes beside it are as they were
   beside_in : (a : ℕ) → m.start ≤ a → IsBeside (payload_range pay) a → byte_at n a ≡ byte_at m a
@@ -292,8 +285,7 @@ module _ {fl_bits sl_bits fllen sllen : ℕ} {m n : Space} {x : Table} {j : Stat
   module _ {o : Space} {y : Table} {k : State} {most copies : ℕ} (core : LeavesCoreCopying fllen sllen n o y j k most copies)
       (kept : KeepsPayloadsResizing (read_from n j) (read_from o k) pay.start) where
     pub here_there : IsHere o (span (read_from n j) pay.start pay.start)
-    here_there a lo hi =
-        core.here a (omega (arith, low, lo)) (here_in a (omega (arith, lo, held_in.1)) (omega (arith, hi, held_in.1, long p, ap length bytes_are)))
+    here_there a lo hi = grind (arith, low, here_in, held_in, long, p, bytes_are)
 
     pub there_at : IsAt o (read_from n j) (read_from o k) pay.start pay.align pay.start
     there_at =
@@ -345,11 +337,8 @@ module _ {fl_bits sl_bits fllen sllen : ℕ} {m n : Space} {x : Table} {j : Stat
         standing = stands-without core.core.stands u holds.0 q over.memory.start over.memory.bytes (over.memory.out ∙ ap (out_without o) range_is)
 
         -- the state is the one that the call led to
-        state_over : read_from q k ≡ read_from o k
-        state_over = arrived standing k (sym (bare-core core.core))
-
         pub reads_over : (P : State → Type 0) → P (read_from o k) → P (read_from q k)
-        reads_over P = subst P (sym state_over)
+        reads_over P = subst P (sym (arrived standing k (sym (bare-core core.core))))
 
         -- the payload is where the call put it
         begins : p.start ≡ to
@@ -450,8 +439,7 @@ module _ {fl_bits sl_bits fllen sllen : ℕ} {m n : Space} {x : Table} {j : Stat
 
         module _ (ledger label : ℕ) (named : name ≡ ledger) where
           identity_over : p.identity ≡ record { home = home_of m; ledger = ledger }
-          identity_over =
-              over.identity ∙ same_identity m o (core.costs.start ∙ back.memory.start) (core.costs.length ∙ back.long) (core.costs.view ∙ back.memory.view) ledger name named
+          identity_over = grind (arith, same_identity, long)
 
           pub resized_over : (size : ℕ) → size ≤ length (bytes_at (read_from o k) to) → length (bytes_at (read_from o k) to) < size + 32
               → Keeps (bytes_at (read_from n j) pay.start) (bytes_at (read_from o k) to) → IsHere o (span (read_from n j) pay.start to)

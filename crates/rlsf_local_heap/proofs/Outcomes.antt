@@ -8,7 +8,7 @@ use Rattle.rlsf_heap.specs.Heap.{HeapView}
 use Rattle.rlsf_heap.specs.Kept.{NoneBecomesRawBeside}
 use Rattle.rlsf_heap.specs.Frame.{KeepsFrameBeside}
 use Rattle.rlsf_heap.specs.Units.{IsUnitRefused, IsUnitResized, identity_of, payload_len, unit_addr_of}
-use Rattle.rlsf_heap.proofs.Frames.{heap_same}
+use Rattle.rlsf_heap.proofs.Kept.{heap_same}
 use Rattle.rlsf_local_heap.specs.Resized.{IsAtSamePlace}
 
 pub each_result : {A B : Type 0} {Is Has : A → Type 0} {Was Had : B → Type 0} (r : Result A B) → ((x : A) → Is x → Has x) → ((y : B) → Was y → Had y)
@@ -52,14 +52,10 @@ both P Q None r is has = tt
 both P Q (Some x) None is has = tt
 both P Q (Some x) (Some y) is has = (is, has)
 
--- of a heap that doesn't change, no byte becomes raw
-none_raw_beside-none : (v : HeapView) (r : Range) → NoneBecomesRawBeside v v r
-unfolding NoneBecomesRawBeside
-none_raw_beside-none v r a from side is = is
-
--- it is kept
+-- a heap that doesn't change is kept
 pub frame_beside-same : (v : HeapView) (r : Range) → KeepsFrameBeside v v r
-frame_beside-same v r = record { heap = heap_same v; raw = none_raw_beside-none v r; chunks = refl; copied = refl }
+unfolding NoneBecomesRawBeside
+frame_beside-same v r = record { heap = heap_same v; raw = λ a from side is. is; chunks = refl; copied = refl }
 
 -- a payload of units that has another size, or not, is at the same place
 pub stays_there : (old new : HeapView) (r : Result UnitPayload UnitPayload) (was : UnitPayload) (size : ℕ) → identity_of was ≡ old.identity

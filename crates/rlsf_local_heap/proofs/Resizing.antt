@@ -1,38 +1,36 @@
 -- `grow` and `shrink`, whose code is the same: it gives the block to `resized` as a value, and takes apart what that returns. Assumes `Logic`.
-use Rattle.std.proofs.Common.{◌≡◌, ℕ, ◌^◌, ◌≤◌, true, false, List, [], ◌∷◌, ◌++◌, refl, sym, ap, ◌∙◌, lit<, w8, w64, Ok, Err}
-use mir.Val.{Val, vint, vptr}
-use base.Logic.{SProp, sep, emp, id⊢, fst∗, never}
+use Rattle.std.proofs.Common.{◌≡◌, ℕ, List, [], ◌∷◌, ◌++◌, MatchResult, Ok, Err, refl, ap, ◌∙◌, ◌^◌, ◌≤◌, true, false, sym, lit<, w8, w64}
+use seplogic.Ra.Ura.{Ura}
+use mir.Val.{Val, vcons, vnil, of_list, vint, vptr}
+use base.Logic.{never, fst∗, SProp, sep, emp, id⊢}
 use base.Fml.{ffalse, fsep}
 use types.Logic.{Logic, sem}
+use types.Kit.{Item, Goal, Seq, ‵, ◌$◌, move, drop, rewrite, fsplit, fpick, feq_l, raw, ◌⊛◌, some, later, prop, at_ret, ◌∵◌, !, qed, by, keep, use0, use1, split, split3, join}
+use types.Kit.{pick, regoal, fjoin, feq_i, flt_i, await}
+use types.Match.{live, vrt, in_variant}
+use denote.RattleType.{RattleType, owns}
+use denote.RawPtr.{Ptr, block_ptr, null_ptr, in_a_block, ptr_val}
+use denote.Shadow.{pure_l}
+use denote.Steps.{only, nothing, heard}
+use Rattle.std.specs.Allocator.{array_of, block_with_items, FitsBlock}
+use Rattle.rlsf_heap.specs.Heap.{Identity}
+use Rattle.rlsf_local_heap.specs.Ownership.{block_token}
+use Rattle.rlsf_local_heap.proofs.SmallerUnits.{list_val, list_own, list_told, list_made}
 use contract.BorrowLft.{◌⊑◌}
 use contract.Monad.{fact, fact_i}
-use types.Kit.{‵, raw, ◌⊛◌, some, later, prop, at_ret, ◌$◌, ◌∵◌, !, qed, by, move, keep, drop, use0, use1, split, split3, join, pick, rewrite, regoal}
-use types.Kit.{fsplit, fjoin, feq_i, flt_i, await}
 use types.Part.{whole, sub, agg}
-use types.Match.{vrt, in_variant}
 use types.Run.{stop, fld, lit, of_opd, no_more, and_then, first, switches_on, exec, returns, enter}
 use types.ByLocal.{alloc_all, pass_all, free_all, look_at, get, get_in, get_tag, sets, sets_last, lands_as, env}
-use denote.RattleType.{RattleType, owns}
-use denote.RawPtr.{Ptr, block_ptr, in_a_block, null_ptr, ptr_val}
 use denote.Param.{param, layout, bounded}
 use denote.Signature.{types_at}
-use denote.Steps.{nothing, heard}
 use denote.Triple.Entry.{alive}
 use denote.Triple.Call.{calls_at}
 use Rattle.core.proofs.alloc.Calls.{Answer, answer_val, Answer-Ok, Answer-err}
 use Rattle.core.proofs.alloc.Shapes.{after, head, arm_body}
 use Rattle.core.proofs.atomic.Steps.{fm}
 use Rattle.std.proofs.raw_atomic.Walks.{proved_at, leaves}
-use Rattle.rlsf_local_heap.proofs.Values.{list_val, list_own, list_made}
-use Rattle.rlsf_heap.specs.Heap.{Identity}
-use Rattle.rlsf_local_heap.specs.Ownership.{block_token}
-use Rattle.std.specs.Allocator.{array_of, block_with_items, FitsBlock}
-use Rattle.rlsf_local_heap.specs.contracts.buffer.Buffer as buffer
-use seplogic.Ra.Ura.{Ura}
-use mir.Syntax.{Ty, Fn, Args, Callee, Dict, a_type, dcons, dnil, local, value_local, ty_ref, ty_ptr, ty_int, named, imm, place, field, variant, copy, int, rv_opd}
-use mir.Syntax.{aggregate, seq, assign, call, switch, arm, no_default, return}
-use Rattle.core.specs.contracts.alloc.AllocError as error
-use Rattle.core.specs.contracts.marker.PhantomData as marker
+use mir.Syntax.{Ty, Fn, Args, Callee, Dict, a_type, dcons, dnil, local, value_local, ty_ref, ty_ptr, ty_int, named, imm, place, field, variant, copy, int, rv_opd, aggregate, seq}
+use mir.Syntax.{assign, call, switch, arm, no_default, return}
 use prog.Model.{Model}
 use prog.Wp.{Env, Calls, Loops, WpFn, Closed}
 use contract.Running.{Running, tables}
@@ -40,13 +38,50 @@ use denote.Triple.Clauses.{Ended, Clauses, Lasts, lasts, closing}
 use denote.Triple.Spec.{Meets, triple_of}
 use denote.Triple.Walked.{walk_of}
 use Rattle.rlsf_base.proofs.RawBlock.Walks.{then_runs}
+use Rattle.rlsf_local_heap.specs.contracts.local.LocalHeapAllocator.grow.{ended, clauses}
+use Rattle.rlsf_heap.proofs.ThinValues.{dropped, all_go}
+use Rattle.core.specs.contracts.result.Result as result
+use Rattle.rlsf_local_heap.specs.contracts.buffer.Buffer as buffer
+use Rattle.core.specs.contracts.alloc.AllocError as error
+use Rattle.core.specs.contracts.marker.PhantomData as marker
 use Rattle.rlsf_local_heap.specs.declared.slot.Identified
 use Rattle.rlsf_local_heap.specs.declared.unit_heap.UnitHeap
 use Rattle.rlsf_local_heap.specs.contracts.local.LocalHeap.resized as callee
 use Rattle.rlsf_local_heap.specs.contracts.local.LocalHeap.resized.Key as callee_key
-use Rattle.rlsf_local_heap.specs.contracts.local.LocalHeapAllocator.grow.{ended, clauses}
-use Rattle.rlsf_local_heap.proofs.Resized.{Resized, Told, resized}
-use Rattle.rlsf_local_heap.proofs.Walks.{dropped, all_go}
+
+-- ---- the two cases of what `resized` returns. Assumes `Logic`
+
+module _ (R : RattleType) where
+  abbrev Buf : RattleType
+  Buf = buffer.the_row R
+
+  abbrev pub Resized : RattleType
+  Resized = result.the_row Buf Buf
+
+  abbrev pub Told : Buf.Denot → ℕ → ℕ → ℕ → Resized.Denot → Type 0
+  Told x len old new r = MatchResult r (λ b. (b.heap ≡ x.heap) × (b.len ≡ len) × (b.cap ≡ new) × (b.items ≡ x.items))
+      (λ b. (b.ptr ≡ x.ptr) × (b.heap ≡ x.heap) × (b.len ≡ len) × (b.cap ≡ old) × (b.items ≡ x.items))
+
+  module _ {M : Type 1} {𝓤 : Ura M} {𝓛 : Logic 𝓤} {K : Type 0} {Γ : List (Item 𝓤)} {G : Goal 𝓤 𝓛.H} where
+    pub resized : K → (x : Buf.Denot) (len old new : ℕ) (r : Resized.Denot) (v : Val) → Told x len old new r
+        → ((b o : ℕ) → v ≡ live 0 (vcons (list_val (block_ptr b o)) vnil) → Seq K 𝓛 (‵ (block_with_items (block_token x.heap) R (block_ptr b o) len new x.items) ∷ Γ) G)
+        → (v ≡ live 1 (vcons (list_val x.ptr) vnil) → Seq K 𝓛 (‵ (block_with_items (block_token x.heap) R x.ptr len old x.items) ∷ Γ) G)
+        → Seq K 𝓛 (‵ (Resized.own_val r (v ∷ [])) ∷ Γ) G
+    resized t x len old new (Ok w) v told moved kept =
+        fpick t (λ us. fsplit t $
+        feq_l t (λ is. fpick t (λ vss. fsplit t $ feq_l t (λ is'. fsplit t $ move t (1 ∷ []) $ drop t $ fsplit t $ pure_l t (list_own w.ptr vss.0) (λ s.
+        rewrite t 0 (λ (u : Identity × ℕ × ℕ × List R.Denot). ‵ (block_with_items (block_token u.0) R w.ptr u.1 u.2 u.3)) (λ i. (told.0 i, told.1 i, told.2 i, told.3 i)) refl $
+        in_a_block t w.ptr (λ p. block_with_items (block_token x.heap) R p len new x.items)
+        (fst∗ 𝓤 (never 𝓤) (sem 𝓛 (fsep ffalse (block_token x.heap (array_of R new) null_ptr)))) (λ b o at.
+        moved b o (ap only is ∙ ap (λ (xs : List Val). live 0 (of_list xs)) (is' ∙ ap (λ (xs : List Val). xs ++ []) (list_told w.ptr vss.0 s).0)
+        ∙ ap (λ (p : Ptr). live 0 (vcons (list_val p) vnil)) at)))))))
+    resized t x len old new (Err w) v told moved kept =
+        fpick t (λ us. fsplit t $
+        feq_l t (λ is. fpick t (λ vss. fsplit t $ feq_l t (λ is'. fsplit t $ move t (1 ∷ []) $ drop t $ fsplit t $ pure_l t (list_own w.ptr vss.0) (λ s.
+        rewrite t 0 (λ (u : Ptr × Identity × ℕ × ℕ × List R.Denot). ‵ (block_with_items (block_token u.1) R u.0 u.2 u.3 u.4))
+        (λ i. (told.0 i, told.1 i, told.2 i, told.3 i, told.4 i)) refl $
+        kept (ap only is ∙ ap (λ (xs : List Val). live 1 (of_list xs)) (is' ∙ ap (λ (xs : List Val). xs ++ []) (list_told w.ptr vss.0 s).0)
+        ∙ ap (λ (p : Ptr). live 1 (vcons (list_val p) vnil)) told.0))))))
 
 module _ (T X : RattleType) (gU : UnitHeap.Ghosts T.Denot) (dU : Dict) (gI : Identified.Ghosts T.Denot) (dI dd : Dict) where
   abbrev R : RattleType

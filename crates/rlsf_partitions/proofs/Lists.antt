@@ -1,7 +1,7 @@
 -- Lists of pools, of which one is changed.
-use Rattle.std.proofs.Common.{◌≡◌, ℕ, zero, suc, ◌+◌, ◌-◌, ◌<◌, ◌≤◌, Bool, true, false, cond, List, [], ◌∷◌, ◌++◌, length, map, take, Option, Some, None, nat_le}
+use Rattle.std.proofs.Common.{◌≡◌, ℕ, zero, suc, ◌+◌, ◌-◌, ◌<◌, ◌≤◌, true, false, cond, List, [], ◌∷◌, ◌++◌, length, map, take, Option, Some, None, nat_le}
 use Rattle.std.proofs.Common.{arith, inl, inr, refl, sym, ◌∙◌, ap, subst}
-use Rattle.std.proofs.lemmas.Bool.{cases_lt}
+use Rattle.std.proofs.lemmas.Bool.{cases_Bool}
 use Rattle.std.proofs.lemmas.Bool.Decides.{nat_tests}
 use Rattle.std.proofs.lemmas.List.Sums.{sum_by-cons}
 use Rattle.std.proofs.lemmas.Option.{none-some, same_Some}
@@ -10,8 +10,7 @@ use Rattle.std.specs.Prelude.{slice_get, slice_set, sum_by}
 use Rattle.rlsf_base.specs.Sizes.{pool_size_for_objects}
 use Rattle.rlsf_heap.specs.Heap.{PayloadView}
 use Rattle.rlsf_partitions.specs.Partitions.{ArePossible, HasAt, IsFullAt, IsGivenBackAt, IsKept, IsOf, IsPlaced, ArePossibleLengths, IsTakenAt, PartitionView, Quota, fresh}
-use Rattle.rlsf_partitions.specs.Partitions.{partition_for, partitions_view}
-use Rattle.rlsf_partitions.specs.Partitions.{quota_of, vacant, with_one_less, with_one_more, with_one_more_for}
+use Rattle.rlsf_partitions.specs.Partitions.{partition_for, partitions_view, quota_of, vacant, with_one_less, with_one_more, with_one_more_for}
 
 -- ---- an element is changed
 
@@ -78,72 +77,30 @@ pub record IsFound (qs : List Quota) (size place : ℕ) : Type 0 where
   pub room : vacant qs size ≡ quota.count - quota.live
   pub changed : (n : Quota) → n.size ≡ quota.size → vacant (slice_set qs place n) size ≡ n.count - n.live
 
+-- a place behind the first one is one of the rest
+behind : (o : Option ℕ) (place : ℕ) → option_map (λ k. suc k) o ≡ Some place → (k : ℕ) × (o ≡ Some k) × (place ≡ suc k)
+behind None place e = absurd (none-some place e)
+behind (Some k) place e = (k, refl, sym (same_Some (suc k) place e))
+
 pub found : (qs : List Quota) (size place : ℕ) → partition_for qs size ≡ Some place → IsFound qs size place
 found [] size place told = absurd (none-some place told)
-found (q ∷ qs) size place told = by_test (nat_le size q.size) refl told (λ k. found qs size k)
-  where
-    here : nat_le size q.size ≡ true → IsFound (q ∷ qs) size 0
-    here e = record {
-      quota = q;
-      there = refl;
-      reaches = grind (arith, nat_tests);
-      room = ap (λ b. cond b (q.count - q.live) (vacant qs size)) e;
-      changed = λ n same. ap (λ m. cond (nat_le size m) (n.count - n.live) (vacant qs size)) same ∙ ap (λ b. cond b (n.count - n.live) (vacant qs size)) e;
-    }
-
-    next : nat_le size q.size ≡ false → (k : ℕ) → IsFound qs size k → IsFound (q ∷ qs) size (suc k)
-    next e k is = record {
-      quota = is.quota;
-      there = is.there;
-      reaches = is.reaches;
-      room = ap (λ b. cond b (q.count - q.live) (vacant qs size)) e ∙ is.room;
-      changed = λ n same. ap (λ b. cond b (q.count - q.live) (vacant (slice_set qs k n) size)) e ∙ is.changed n same;
-    }
-
-    behind : nat_le size q.size ≡ false → (o : Option ℕ) → partition_for qs size ≡ o → option_map (λ k. suc k) o ≡ Some place
-        → ((k : ℕ) → partition_for qs size ≡ Some k → IsFound qs size k) → IsFound (q ∷ qs) size place
-    behind e None is led rest = absurd (none-some place led)
-    behind e (Some k) is led rest = subst (IsFound (q ∷ qs) size) (same_Some (suc k) place led) (next e k (rest k is))
-
-    by_test : (b : Bool) → nat_le size q.size ≡ b → cond b (Some 0) (option_map (λ k. suc k) (partition_for qs size)) ≡ Some place
-        → ((k : ℕ) → partition_for qs size ≡ Some k → IsFound qs size k) → IsFound (q ∷ qs) size place
-    by_test true e led rest = subst (IsFound (q ∷ qs) size) (same_Some 0 place led) (here e)
-    by_test false e led rest = behind e (partition_for qs size) refl led rest
+found (q ∷ qs) size place told = elim (cases_Bool (nat_le size q.size)) [
+  | inl is_first ↦ record { quota = q; there = grind arith; reaches = grind (arith, nat_tests); room = grind arith; changed = grind arith }
+  | inr is_not ↦
+      let (k, led, at) = behind (partition_for qs size) place (grind arith) in
+      let is = found qs size k led in
+      record { quota = is.quota; there = grind (arith, is.there); reaches = is.reaches; room = grind (arith, is.room); changed = grind (arith, is.changed) }
+]
 
 -- the pool at the place is the one that the size leads to
 pub more_for : (qs : List Quota) (size place : ℕ) → partition_for qs size ≡ Some place → with_one_more place qs ≡ with_one_more_for size qs
 more_for [] size place told = refl
-more_for (q ∷ qs) size place told = by_test (nat_le size q.size) refl told (λ k. more_for qs size k)
-  where
-    more : Quota
-    more = record q { live = q.live + 1 }
-
-    behind : (o : Option ℕ) → partition_for qs size ≡ o → option_map (λ k. suc k) o ≡ Some place
-        → ((k : ℕ) → partition_for qs size ≡ Some k → with_one_more k qs ≡ with_one_more_for size qs) → with_one_more place (q ∷ qs) ≡ q ∷ with_one_more_for size qs
-    behind None is led rest = absurd (none-some place led)
-    behind (Some k) is led rest = ap (λ n. with_one_more n (q ∷ qs)) (sym (same_Some (suc k) place led)) ∙ ap (λ l. q ∷ l) (rest k is)
-
-    by_test : (b : Bool) → nat_le size q.size ≡ b → cond b (Some 0) (option_map (λ k. suc k) (partition_for qs size)) ≡ Some place
-        → ((k : ℕ) → partition_for qs size ≡ Some k → with_one_more k qs ≡ with_one_more_for size qs)
-        → with_one_more place (q ∷ qs) ≡ with_one_more_for size (q ∷ qs)
-    by_test true e led rest =
-        ap (λ n. with_one_more n (q ∷ qs)) (sym (same_Some 0 place led)) ∙ ap (λ b. cond b (more ∷ qs) (q ∷ with_one_more_for size qs)) (sym e)
-    by_test false e led rest = behind (partition_for qs size) refl led rest ∙ ap (λ b. cond b (more ∷ qs) (q ∷ with_one_more_for size qs)) (sym e)
+more_for (q ∷ qs) size place told = grind (arith, more_for qs size)
 
 -- no pool reaches the size
 pub none_found : (qs : List Quota) (size : ℕ) → partition_for qs size ≡ None → vacant qs size ≡ 0
 none_found [] size told = refl
-none_found (q ∷ qs) size told = by_test (nat_le size q.size) refl told (λ none. none_found qs size none)
-  where
-    behind : (o : Option ℕ) → partition_for qs size ≡ o → option_map (λ k. suc k) o ≡ None → (partition_for qs size ≡ None → vacant qs size ≡ 0)
-        → vacant qs size ≡ 0
-    behind None is led rest = rest is
-    behind (Some k) is led rest = absurd (none-some (suc k) (sym led))
-
-    by_test : (b : Bool) → nat_le size q.size ≡ b → cond b (Some 0) (option_map (λ k. suc k) (partition_for qs size)) ≡ None
-        → (partition_for qs size ≡ None → vacant qs size ≡ 0) → vacant (q ∷ qs) size ≡ 0
-    by_test true e led rest = absurd (none-some 0 (sym led))
-    by_test false e led rest = ap (λ b. cond b (q.count - q.live) (vacant qs size)) e ∙ behind (partition_for qs size) refl led rest
+none_found (q ∷ qs) size told = grind (arith, none_found qs size)
 
 -- ---- the loop that looks for a pool
 
@@ -158,15 +115,7 @@ none_before ps size k p less there = absurd (omega (arith, less))
 pub none_more : (ps : List PartitionView) (size place : ℕ) (p : PartitionView) → NoneBefore ps size place → slice_get ps place ≡ Some p → nat_le size p.size ≡ false
     → NoneBefore ps size (place + 1)
 unfolding NoneBefore
-none_more ps size place p before there short k q less at = elim (cases_lt k place) [
-  | inl front ↦ before k q front at
-  | inr back ↦
-      let here : k ≡ place = omega (arith, less, back) in
-      let same : p ≡ q = same_Some p q (sym there ∙ ap (slice_get ps) (sym here) ∙ at) in
-      let is : p.size ≡ q.size = ap (λ r. r.size) same in
-      let small : p.size < size = grind (arith, nat_tests) in
-      omega (arith, small, is)
-]
+none_more ps size place p before there short k q less at = grind (arith, before, nat_tests)
 
 tail : (p : PartitionView) (ps : List PartitionView) (size place : ℕ) → NoneBefore (p ∷ ps) size (suc place) → NoneBefore ps size place
 unfolding NoneBefore
@@ -181,18 +130,12 @@ head p ps size place before =
 pub first_here : (ps : List PartitionView) (size place : ℕ) (p : PartitionView) → NoneBefore ps size place → slice_get ps place ≡ Some p → nat_le size p.size ≡ true
     → Some place ≡ partition_for (map quota_of ps) size
 first_here [] size place p before there reaches = absurd (none-some p there)
-first_here (q ∷ ps) size zero p before there reaches =
-    let is : nat_le size q.size ≡ true = ap (λ r. nat_le size r.size) (same_Some q p there) ∙ reaches in
-    ap (λ b. cond b (Some 0) (option_map (λ k. suc k) (partition_for (map quota_of ps) size))) (sym is)
-first_here (q ∷ ps) size (suc place) p before there reaches =
-    ap (option_map (λ k. suc k)) (first_here ps size place p (tail q ps size place before) there reaches)
-    ∙ ap (λ b. cond b (Some 0) (option_map (λ k. suc k) (partition_for (map quota_of ps) size))) (sym (head q ps size place before))
+first_here (q ∷ ps) size zero p before there reaches = grind (arith, same_Some)
+first_here (q ∷ ps) size (suc place) p before there reaches = grind (arith, first_here ps size place p, tail, head)
 
 pub none_here : (ps : List PartitionView) (size : ℕ) → NoneBefore ps size (length ps) → None ≡ partition_for (map quota_of ps) size
 none_here [] size before = refl
-none_here (q ∷ ps) size before =
-    ap (option_map (λ k. suc k)) (none_here ps size (tail q ps size (length ps) before))
-    ∙ ap (λ b. cond b (Some 0) (option_map (λ k. suc k) (partition_for (map quota_of ps) size))) (sym (head q ps size (length ps) before))
+none_here (q ∷ ps) size before = grind (arith, none_here ps size, tail, head)
 
 -- ---- a payload is allocated
 
@@ -213,54 +156,29 @@ module _ {ps ns : List PartitionView} {place : ℕ} {p : PayloadView} (t : IsTak
   taken_owner = get-map (λ q. q.identity) ps place t.was t.there ∙ ap Some (sym t.taken.identity)
 
   pub taken_kept : IsKept (partitions_view ps) (partitions_view ns) 27
-  taken_kept = record {
-    heaps = ap (map (λ q. q.identity)) t.set ∙ set-map (λ q. q.identity) ps place t.was t.now t.there
-        ∙ ap (λ q. slice_set (map (λ x. x.identity) ps) place q.identity) t.taken.taken
-        ∙ set-same (map (λ q. q.identity) ps) place t.was.identity (get-map (λ q. q.identity) ps place t.was t.there);
-    sizes = ap partition_for taken_quotas ∙ (λ i size. more_places place qs size i);
-    touches = omega (arith, sum-set (λ q. q.touches) ps place t.was t.now t.there, ap (sum_by (λ q. q.touches)) t.set, t.touches);
-  }
+  taken_kept = grind (arith, set-map, set-same, get-map, taken_quotas, more_places, qs, sum-set)
 
   module _ (size : ℕ) (told : partition_for qs size ≡ Some place) where
     same : quota_of t.was ≡ (found qs size place told).quota
     same = same_Some (quota_of t.was) (found qs size place told).quota (sym at ∙ (found qs size place told).there)
 
     taken_less : vacant qs size ≡ vacant (map quota_of ns) size + 1
-    taken_less =
-        let f = found qs size place told in
-        let q : Quota = record (quota_of t.was) { live = t.was.live + 1 } in
-        let after : vacant (map quota_of ns) size ≡ t.was.count - (t.was.live + 1) =
-        ap (λ l. vacant l size) set_is ∙ f.changed q (ap (λ x. x.size) same) in
-        omega (arith, f.room, ap (λ x. x.count) same, ap (λ x. x.live) same, after, t.taken.room)
+    taken_less = grind (arith, found, qs, set_is, same)
 
     pub taken_placed : IsPlaced (partitions_view ps) (partitions_view ns) size place p
-    taken_placed = record {
-      first = told;
-      still = ap (λ l. partition_for l size) taken_quotas ∙ more_places place qs size ∙ told;
-      owner = taken_owner;
-      quotas = taken_quotas ∙ more_for qs size place told;
-      less = taken_less;
-      sized = omega (arith, (found qs size place told).reaches, ap (λ x. x.size) same, t.taken.sized);
-      aligned = t.taken.aligned;
-    }
+    taken_placed = grind (arith, taken_quotas, more_places, qs, taken_owner, more_for, taken_less, found, same)
 
     pub some_vacant : vacant qs size ≡ 0 → ⊥
     some_vacant none = omega (arith, none, taken_less)
 
 -- a full pool has no room for more
 pub full_vacant : (ps : List PartitionView) (size place : ℕ) → partition_for (map quota_of ps) size ≡ Some place → IsFullAt ps place → vacant (map quota_of ps) size ≡ 0
-full_vacant ps size place told (p, there, full) =
-    let f = found (map quota_of ps) size place told in
-    let same : quota_of p ≡ f.quota = same_Some (quota_of p) f.quota (sym (get-map quota_of ps place p there) ∙ f.there) in
-    omega (arith, f.room, ap (λ x. x.count) same, ap (λ x. x.live) same, full)
+full_vacant ps size place told (p, there, full) = grind (arith, found (map quota_of ps) size place told, get-map)
 
 -- so many payloads have room as are counted at the place
 pub vacant_here : (ps : List PartitionView) (size place n : ℕ) → partition_for (map quota_of ps) size ≡ Some place → HasAt ps place (λ p. n + p.live ≡ p.count)
     → n ≡ vacant (map quota_of ps) size
-vacant_here ps size place n told (p, there, counted) =
-    let f = found (map quota_of ps) size place told in
-    let same : quota_of p ≡ f.quota = same_Some (quota_of p) f.quota (sym (get-map quota_of ps place p there) ∙ f.there) in
-    omega (arith, f.room, ap (λ x. x.count) same, ap (λ x. x.live) same, counted)
+vacant_here ps size place n told (p, there, counted) = grind (arith, found (map quota_of ps) size place told, get-map)
 
 -- ---- a payload is deallocated
 
@@ -275,9 +193,7 @@ module _ {ps ns : List PartitionView} {place : ℕ} (g : IsGivenBackAt ps ns pla
   now_is = ap (map quota_of) g.set ∙ set-map quota_of ps place g.was g.now g.there
 
   less_is : record (quota_of g.was) { live = g.was.live - 1 } ≡ quota_of g.now
-  less_is =
-      let one : g.now.live + 1 - 1 ≡ g.now.live = omega arith in
-      ap {A = PartitionView} (λ w. record (quota_of w) { live = w.live - 1 }) g.given_back ∙ ap (λ n. record (quota_of g.now) { live = n }) one
+  less_is = grind (arith, g.given_back)
 
   pub given_freed : map quota_of ns ≡ with_one_less place rs
   given_freed = now_is ∙ ap (slice_set rs place) (sym less_is) ∙ sym (less-set rs place (quota_of g.was) was_at)
@@ -305,13 +221,7 @@ module _ {ps ns : List PartitionView} {place : ℕ} (g : IsGivenBackAt ps ns pla
       omega (arith, f.room, ap (λ x. x.count) same, ap (λ x. x.live) same, before, live, count, g.within)
 
   pub given_kept : IsKept (partitions_view ps) (partitions_view ns) 32
-  given_kept = record {
-    heaps = ap (map (λ q. q.identity)) g.set ∙ set-map (λ q. q.identity) ps place g.was g.now g.there
-        ∙ ap (λ w. slice_set (map (λ x. x.identity) ps) place w.identity) (sym g.given_back)
-        ∙ set-same (map (λ q. q.identity) ps) place g.was.identity (get-map (λ q. q.identity) ps place g.was g.there);
-    sizes = ap partition_for given_freed ∙ (λ i size. less_places place rs size i);
-    touches = omega (arith, sum-set (λ q. q.touches) ps place g.was g.now g.there, ap (sum_by (λ q. q.touches)) g.set, g.touches);
-  }
+  given_kept = grind (arith, set-map, set-same, get-map, given_freed, less_places, rs, sum-set)
 
 -- ---- new pools
 
@@ -321,9 +231,7 @@ take-get (y ∷ xs) zero x there = ap (λ z. z ∷ []) (same_Some y x there)
 take-get (y ∷ xs) (suc i) x there = ap (λ l. y ∷ l) (take-get xs i x there)
 
 take-next : {A : Type 0} (xs : List A) (i : ℕ) (x : A) → slice_get xs i ≡ Some x → take (i + 1) xs ≡ take i xs ++ x ∷ []
-take-next xs i x there =
-    let next : i + 1 ≡ suc i = omega arith in
-    ap (λ n. take n xs) next ∙ take-get xs i x there
+take-next xs i x there = grind (arith, take-get)
 
 map-last : {A B : Type 0} (f : A → B) (xs : List A) (x : A) → map f (xs ++ x ∷ []) ≡ map f xs ++ f x ∷ []
 map-last f [] x = refl

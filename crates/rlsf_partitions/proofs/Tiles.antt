@@ -1,6 +1,5 @@
 -- Blocks of one length fill a partition's pool, whatever is allocated and freed.
-use Rattle.std.proofs.Common.{◌≡◌, ℕ, ◌+◌, ◌*◌, ◌%◌, ◌<◌, ◌≤◌, cond, ◌/◌, [], ◌∷◌, length}
-use Rattle.std.proofs.Common.{Option, Some, None, IfNone, IfSome, IsNone, arith, refl, sym, ◌∙◌, ap, subst, inl, inr}
+use Rattle.std.proofs.Common.{◌≡◌, ℕ, ◌+◌, ◌*◌, ◌%◌, ◌<◌, ◌≤◌, ◌/◌, length, Option, Some, None, IfNone, IfSome, IsNone, arith, refl, sym, ◌∙◌, ap, subst}
 use Rattle.std.proofs.lemmas.Bool.{false≢true, le-leb}
 use Rattle.std.proofs.Math.Nat.{mul-le-mul_right}
 use Rattle.rlsf_base.specs.PowerOfTwo.{IsPowerOfTwo}
@@ -10,11 +9,10 @@ use Rattle.rlsf_base.specs.Sizes.{pool_size_for_objects, request_size}
 use Rattle.rlsf_base.specs.Space.{range_of}
 use Rattle.rlsf_base.specs.declared.memory.range.Range.{Range}
 use Rattle.rlsf_model.specs.Allocate.{Allocates}
-use Rattle.rlsf_model.specs.Insert.{aligned_part, with_chunks, Inserts}
+use Rattle.rlsf_model.specs.Insert.{aligned_part, Inserts}
 use Rattle.rlsf_model.specs.Release.{Deallocates}
 use Rattle.rlsf_model.specs.Sized.{live_count}
 use Rattle.rlsf_model.specs.State.{State, empty}
-use Rattle.rlsf_model.specs.Uniform.{IsUniform}
 use Rattle.rlsf_model.specs.WellFormed.{IsWellFormed}
 use Rattle.rlsf_model.proofs.Uniform.{allocation_keeps_uniform, deallocation_keeps_uniform, uniform_is_full}
 use Rattle.rlsf_base.proofs.SizeMaps.ChunkLengths.{IsObjectPool-some}
@@ -43,19 +41,7 @@ sixteen = refl
 pub HasTiles-new : (v w : HeapView) (r : Range) (reply : Option ℕ) (asked count : ℕ) → v.state ≡ empty → Steps 59 8 w (Inserts 59 v.state r reply)
     → 64 ≤ (aligned_part r).len → count * request_size asked 16 + 32 ≤ (aligned_part r).len → HasTiles w.state asked count
 unfolding HasTiles
-HasTiles-new v w r reply asked count none steps enough room =
-    let part = aligned_part r in
-    let step = subst (λ s. Inserts 59 s r reply w.state) none (stepped w (Inserts 59 v.state r reply) steps) in
-    let after : w.state ≡ with_chunks (part ∷ []) empty = step.after ∙ ap (λ b. with_chunks (cond b (range_at part.start part.len ∷ []) []) empty)
-    (le-leb 64 part.len enough) in (
-      part,
-      subst (IsUniform (request_size asked 16) part) (sym after) (record {
-        chunks = refl;
-        used = λ u i. absurd i;
-        free = λ f. elim [ inl same ↦ (0, ap (λ x. x.start) same ∙ omega arith) | inr bad ↦ absurd bad ];
-      }),
-      room,
-    )
+HasTiles-new v w r reply asked count none steps enough room = grind (arith, stepped, le-leb)
 
 pub HasTiles-allocated : (v w : HeapView) (asked align count : ℕ) (reply : Option ℕ) → align ≡ 16 → Stands 59 8 v
     → Steps 59 8 w (Allocates 8 v.state asked align reply) → HasTiles v.state asked count → HasTiles w.state asked count

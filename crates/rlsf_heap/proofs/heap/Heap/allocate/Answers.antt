@@ -12,13 +12,8 @@ use Rattle.rlsf_tlsf.proofs.LiveBytes.{budget_allows, bytes_more}
 use Rattle.rlsf_tlsf.proofs.Reached.{bare-core}
 use Rattle.rlsf_heap.specs.Heap.{AreIssued, Stands, Steps, lent_bytes}
 use Rattle.rlsf_heap.specs.Kept.{KeepsOwn, KeepsSpareBytes, NoneBecomesRaw}
-use Rattle.rlsf_heap.proofs.Allocated.{issued-new, one_more, own-left, stands-left}
-use Rattle.rlsf_heap.proofs.Rest.{rest_kept}
-use Rattle.rlsf_heap.proofs.Arrivals.{IsHeap-arrived}
-use Rattle.rlsf_heap.proofs.Kept.{raw-left, raw-stays, spare-last}
-use Rattle.rlsf_heap.proofs.LentBytes.{lent_kept}
-use Rattle.rlsf_heap.proofs.OnCores.{IsHeap-left, Steps-left, frame-left, same_identity, stays}
-use Rattle.rlsf_heap.proofs.Settled.{settled-here, settled-left, settled-stays}
+use Rattle.rlsf_heap.proofs.OnCores.{issued-new, one_more, own-left, stands-left, IsHeap-arrived, IsHeap-left, Steps-left, frame-left, same_identity, stays}
+use Rattle.rlsf_heap.proofs.Kept.{rest_kept, raw-left, raw-stays, spare-last, lent_kept, settled-here, settled-left, settled-stays}
 use Rattle.rlsf_heap.proofs.heap.Heap.allocate.Given as given
 use Rattle.rlsf_heap.proofs.heap.Heap.allocate.Goals as goal
 use Rattle.rlsf_heap.proofs.heap.Heap.allocate.Goals.{After-hand_over-payload}

@@ -3,7 +3,7 @@ use Rattle.rlsf_model.specs.Allocate.{Allocates}
 use Rattle.rlsf_heap.specs.Heap.{PayloadView, Steps}
 use Rattle.rlsf_heap.specs.Replies.{IsAllocatedZeroed}
 use Rattle.rlsf_heap.specs.Thin.{reply_of}
-use Rattle.rlsf_heap.proofs.ThinPayloads.{is_some, thin_step}
+use Rattle.rlsf_heap.proofs.Tickets.{is_some, thin_step}
 use Rattle.rlsf_heap.proofs.heap.Heap.allocate_thin_zeroed.Goals as goal
 
 pub returns-in-Some : goal.returns-in-Some

@@ -3,8 +3,8 @@ use Rattle.rlsf_model.specs.Allocate.{Allocates}
 use Rattle.rlsf_model.specs.Callers.{align_at}
 use Rattle.rlsf_heap.specs.Heap.{Identity, Steps}
 use Rattle.rlsf_heap.specs.Units.{payload_len, unit_addr_of}
-use Rattle.rlsf_heap.proofs.Allocated.{if_none, if_some}
-use Rattle.rlsf_heap.proofs.UnitPayloads.{units-long, payload_len-whole}
+use Rattle.rlsf_heap.proofs.OnCores.{if_none, if_some}
+use Rattle.rlsf_heap.proofs.Released.{units-long, payload_len-whole}
 use Rattle.rlsf_heap.proofs.heap.Heap.allocate_units.Given as given
 use Rattle.rlsf_heap.proofs.heap.Heap.allocate_units.Goals as goal
 use Rattle.rlsf_heap.proofs.heap.Heap.allocate_units.Goals.{In_ok-payload}

@@ -3,7 +3,7 @@ use Rattle.std.proofs.lemmas.List.{length-replicate}
 use Rattle.rlsf_model.specs.Allocate.{Allocates}
 use Rattle.rlsf_model.specs.Callers.{align_at, bytes_at}
 use Rattle.rlsf_heap.specs.Heap.{Steps, addr_of}
-use Rattle.rlsf_heap.proofs.Allocated.{if_none, if_some}
+use Rattle.rlsf_heap.proofs.OnCores.{if_none, if_some}
 use Rattle.rlsf_heap.proofs.heap.Heap.allocate_zeroed.Goals as goal
 
 -- the payload that was allocated, with other bytes

@@ -3,8 +3,7 @@ use Rattle.rlsf_base.specs.Ledger.{Entry, Extent, entry_of, extent, IsIssued}
 use Rattle.rlsf_model.specs.State.{State}
 use Rattle.rlsf_blocks.specs.Laws.{read_from}
 use Rattle.rlsf_heap.specs.Heap.{AreIssued, HeapView, Identity, IsPayload, PayloadView, heap_view, payload_view}
-use Rattle.rlsf_heap.proofs.PayloadsApart.{redeemed_ticket, shown_aligned, shown_apart, shown_inside, shown_live, shown_long}
-use Rattle.rlsf_heap.proofs.Tickets.{both_apart, both_issued, issued-again}
+use Rattle.rlsf_heap.proofs.Tickets.{redeemed_ticket, shown_aligned, shown_apart, shown_inside, shown_live, shown_long, both_apart, both_issued, issued-again}
 use Rattle.rlsf_heap.proofs.heap.Heap.apart.Given as given
 use Rattle.rlsf_heap.proofs.heap.Heap.apart.Goals as goal
 use Rattle.rlsf_heap.proofs.heap.Heap.apart.Goals.{After-issued-second}

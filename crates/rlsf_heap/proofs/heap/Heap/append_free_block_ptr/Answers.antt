@@ -5,7 +5,7 @@ use Rattle.rlsf_model.proofs.Untouched.{parts_of-IsFresh}
 use Rattle.rlsf_model.proofs.Chunks.{used-appended}
 use Rattle.rlsf_blocks.specs.Laws.{read_from}
 use Rattle.rlsf_heap.specs.Heap.{HeapView, IsUsable}
-use Rattle.rlsf_heap.proofs.Rest.{owned_range}
+use Rattle.rlsf_heap.proofs.Kept.{owned_range}
 use Rattle.rlsf_heap.proofs.OnCores.{IsHeap-pools, Steps-left, core_of, frame-pools}
 use Rattle.rlsf_heap.proofs.heap.Heap.append_free_block_ptr.Goals as goal
 

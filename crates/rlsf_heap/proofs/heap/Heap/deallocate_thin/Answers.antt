@@ -1,14 +1,10 @@
-use Rattle.std.proofs.Common.{◌+◌, ◌≤◌, Some, length, arith, refl, sym, ap, subst, ◌∙◌}
+use Rattle.std.proofs.Common.{Some, arith, refl, ap, subst, ◌∙◌}
 use Rattle.rlsf_base.specs.Piece.{Piece, piece_range}
-use Rattle.rlsf_base.specs.Sizes.{request_size}
-use Rattle.rlsf_model.specs.Callers.{align_at}
 use Rattle.rlsf_model.specs.Release.{Deallocates}
-use Rattle.rlsf_model.specs.Sized.{live_bytes}
 use Rattle.rlsf_heap.specs.Frame.{KeepsFrameBeside}
 use Rattle.rlsf_heap.specs.Heap.{Steps}
-use Rattle.rlsf_heap.specs.Replies.{IsGone}
-use Rattle.rlsf_heap.proofs.Found.{owners}
-use Rattle.rlsf_heap.proofs.ThinPayloads.{comes_back, identity_of_bytes, payload_of_bytes, ticket_of_bytes}
+use Rattle.rlsf_heap.proofs.Found.{deallocated}
+use Rattle.rlsf_heap.proofs.Tickets.{comes_back, identity_of_bytes, payload_of_bytes, ticket_of_bytes}
 use Rattle.rlsf_heap.proofs.heap.Heap.deallocate_thin.Goals as goal
 
 pub put_raw-requires : goal.put_raw-requires
@@ -29,17 +25,11 @@ returns g c =
     let e = c.put_raw.ensures in
     let of = c.args.payload.of in
     let one = c.into_parts.ensures.bytes.0 in
-    let parts = payload_of_bytes of c.into_parts.result.0.piece one in
-    let from = ap (λ (p : Piece). p.start) one ∙ c.requires.some.0 in
     let old = c.args.self.now in
     let new = c.put_raw.new.self in record {
-      step = subst (λ n. Steps g.row.FLLEN g.row.SLLEN new (Deallocates old.state n)) from e.step;
-      result = record {
-        owner = owners old c.into_parts.result.0.piece of.align of.identity.ledger of parts e.owner;
-        live = ap (align_at old.state) (sym from) ∙ e.live ∙ ap (λ n. Some n) c.into_parts.ensures.ticket.3;
-        gone = subst (IsGone old.state new.state) from e.result;
-        freed = subst (λ (p : Piece). live_bytes new.state + request_size (length p.bytes) 16 ≤ live_bytes old.state) one e.freed;
-      };
+      step = subst (λ n. Steps g.row.FLLEN g.row.SLLEN new (Deallocates old.state n)) (ap (λ (p : Piece). p.start) one ∙ c.requires.some.0) e.step;
+      result = deallocated old new c.into_parts.result.0.piece of.align of.identity.ledger of (payload_of_bytes of c.into_parts.result.0.piece one) c.requires.some.0 e.owner
+          (e.live ∙ ap (λ n. Some n) c.into_parts.ensures.ticket.3) e.result e.freed;
       bounds = e.bounds;
       frame = subst (λ (p : Piece). KeepsFrameBeside old new (piece_range p)) one e.frame;
       touches = e.touches;

@@ -6,9 +6,9 @@ use Rattle.rlsf_base.specs.Range.{range_at}
 use Rattle.rlsf_heap.specs.Kept.{NoneBecomesRawBeside}
 use Rattle.rlsf_heap.proofs.Kept.{raw-back}
 use Rattle.rlsf_heap.proofs.OnCores.{stays}
-use Rattle.rlsf_heap.proofs.Released.{IsGiven, IsHeap-given, bounds_given, chunks_given, core_given, gone_given, keeps_given, one_less, raw_given, step_given}
-use Rattle.rlsf_heap.proofs.Shown.{all_behind, lies}
-use Rattle.rlsf_heap.proofs.ResizedUnits.{begins_at, readable, start-fits}
+use Rattle.rlsf_heap.proofs.Released.{IsGiven, IsHeap-given, bounds_given, chunks_given, core_given, gone_given, keeps_given, one_less, raw_given, step_given, begins_at, readable}
+use Rattle.rlsf_heap.proofs.Released.{start-fits}
+use Rattle.rlsf_heap.proofs.Tickets.{all_behind, lies}
 use Rattle.rlsf_heap.proofs.heap.Heap.deallocate_units.Given as given
 use Rattle.rlsf_heap.proofs.heap.Heap.deallocate_units.Goals as goal
 use Rattle.rlsf_heap.proofs.heap.Heap.deallocate_units.Goals.{After-put_unit_payload-block}

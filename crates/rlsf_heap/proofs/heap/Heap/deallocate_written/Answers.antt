@@ -1,11 +1,7 @@
-use Rattle.std.proofs.Common.{◌≡◌, ◌+◌, ◌≤◌, Some, length, arith, refl, sym, ap, subst, ◌∙◌}
+use Rattle.std.proofs.Common.{◌≡◌, Some, length, arith, refl, sym, ap, subst, ◌∙◌}
 use Rattle.rlsf_base.specs.Piece.{CanCome, Piece, piece_range}
-use Rattle.rlsf_base.specs.Sizes.{request_size}
-use Rattle.rlsf_model.specs.Callers.{align_at}
-use Rattle.rlsf_model.specs.Sized.{live_bytes}
 use Rattle.rlsf_heap.specs.Heap.{IsWritten, PayloadView, payload_view}
-use Rattle.rlsf_heap.specs.Replies.{IsGone}
-use Rattle.rlsf_heap.proofs.Found.{owners}
+use Rattle.rlsf_heap.proofs.Found.{deallocated}
 use Rattle.rlsf_heap.proofs.heap.Heap.deallocate_written.Given as given
 use Rattle.rlsf_heap.proofs.heap.Heap.deallocate_written.Goals as goal
 use Rattle.rlsf_heap.proofs.heap.Heap.deallocate_written.Goals.{After-into_thin_bytes}
@@ -39,12 +35,7 @@ put_written-requires g c =
 
 pub returns-clause-result : goal.returns-clause-result
 returns-clause-result g c =
-    let parts = thin_parts g (goal.at.returns-clause-result g c).After-into_thin_bytes in
-    let old = c.args.self.now in
-    let did = c.put_written.ensures in record {
-      owner = owners old c.into_thin_bytes.result.piece c.args.payload.align c.into_parts-part.result.1.name c.args.payload parts did.owner;
-      live = subst (λ (p : PayloadView). align_at old.state p.start ≡ Some c.args.payload.align) parts
-          (did.live ∙ ap (λ n. Some n) (sym c.into_parts-part.ensures.ticket.2));
-      gone = subst (λ (p : PayloadView). IsGone old.state c.put_written.new.self.state p.start) parts did.result;
-      freed = subst (λ (p : PayloadView). live_bytes c.put_written.new.self.state + request_size (length p.bytes) 16 ≤ live_bytes old.state) parts did.freed;
-    }
+    let did = c.put_written.ensures in
+    deallocated c.args.self.now c.put_written.new.self c.into_thin_bytes.result.piece c.args.payload.align c.into_parts-part.result.1.name c.args.payload
+    (thin_parts g (goal.at.returns-clause-result g c).After-into_thin_bytes) refl did.owner (did.live ∙ ap (λ n. Some n) (sym c.into_parts-part.ensures.ticket.2)) did.result
+    did.freed

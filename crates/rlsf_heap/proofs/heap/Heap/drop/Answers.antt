@@ -1,5 +1,5 @@
 use Rattle.std.proofs.Common.{◌-◌, sym, ◌∙◌}
-use Rattle.rlsf_heap.proofs.Arrivals.{none_inside}
+use Rattle.rlsf_heap.proofs.OnCores.{none_inside}
 use Rattle.rlsf_heap.proofs.heap.Heap.drop.Goals as goal
 
 pub free-requires : goal.free-requires

@@ -8,9 +8,7 @@ use Rattle.rlsf_blocks.proofs.RepresentedStates.Counted.{StandsFor-touched}
 use Rattle.rlsf_heap.specs.Heap.{HeapView, Identity, IsHeapOf, PayloadView, heap_view, payload_view}
 use Rattle.rlsf_heap.specs.Raw.{bytes_of}
 use Rattle.rlsf_heap.proofs.Found.{found}
-use Rattle.rlsf_heap.proofs.PayloadsApart.{shown_live}
-use Rattle.rlsf_heap.proofs.ThinPayloads as P
-use Rattle.rlsf_heap.proofs.ThinPayloads.{payload_of_bytes, ticket_of_bytes}
+use Rattle.rlsf_heap.proofs.Tickets as P
 use Rattle.rlsf_heap.proofs.heap.Heap.find_part.Goals as goal
 
 pub checked-payload-requires : goal.checked-payload-requires
@@ -55,9 +53,9 @@ returns g c =
     let same = c.checked-payload.ensures.payload.1 in
     let one = c.into_part-part.ensures ∙ c.into_parts.ensures.bytes.0 ∙ ap bytes_of same in
     let ticket = subst (λ (p : PayloadView). P.IsTicketFor p c.into_parts.result.1) same c.into_parts.ensures.ticket in
-    let at = shown_live c.self.invariant.stands.well_formed (P.shown of) (c.self.invariant.tickets.issued k (P.shown of) known) in record {
-      parts = ap (λ n. payload_view c.into_part-part.result of.align n) ticket.0 ∙ payload_of_bytes of c.into_part-part.result one;
-      ticket = ticket_of_bytes of c.into_part-part.result one c.into_parts.result.1 ticket;
+    let at = P.shown_live c.self.invariant.stands.well_formed (P.shown of) (c.self.invariant.tickets.issued k (P.shown of) known) in record {
+      parts = ap (λ n. payload_view c.into_part-part.result of.align n) ticket.0 ∙ P.payload_of_bytes of c.into_part-part.result one;
+      ticket = P.ticket_of_bytes of c.into_part-part.result one c.into_parts.result.1 ticket;
       live = subst (λ (v : HeapView). align_at v.state c.args.addr ≡ Some of.align) c.self.view_is
           (subst (λ a. align_at (read_from c.self.inside.memory c.self.inside.state.state) a ≡ Some of.align) c.requires.some.0 at);
       heap = (λ i. heap_view (c.load_usable_bytes-range.ensures.memory i) c.self.inside.table c.self.inside.state.state (c.checked-payload.ensures.ledger i).name

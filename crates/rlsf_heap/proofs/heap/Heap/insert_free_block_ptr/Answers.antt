@@ -7,7 +7,7 @@ use Rattle.rlsf_model.proofs.Untouched.{IsFresh-untouched}
 use Rattle.rlsf_blocks.specs.Laws.{read_from}
 use Rattle.rlsf_heap.specs.Heap.{HeapView, IsUsable}
 use Rattle.rlsf_heap.proofs.RangePools.{pool_if}
-use Rattle.rlsf_heap.proofs.Rest.{owned_range}
+use Rattle.rlsf_heap.proofs.Kept.{owned_range}
 use Rattle.rlsf_heap.proofs.OnCores.{IsHeap-pools, Steps-left, core_of, frame-pools}
 use Rattle.rlsf_heap.proofs.heap.Heap.insert_free_block_ptr.Goals as goal
 
@@ -33,12 +33,11 @@ returns g c =
     let s = read_from c.self.inside.memory c.self.inside.state.state in
     let ledger = c.self.inside.ledger.name in
     let e = c.insert_in.ensures in
-    let clear = subst (λ (o : HeapView). IsUntouched o.state.chunks c.args.range) (sym c.self.view_is) c.requires.untouched in
     rw (← c.self.view_is) (record {
       step = Steps-left e.left ledger c.self.inside.lent (Inserts g.row.FLLEN s c.args.range (reply c.insert_in.result)) e.step;
       untouched = e.result.untouched;
       pool = pool_if s (read_from c.insert_in.new.memory c.insert_in.new.state.state) c.args.range c.insert_in.result g.row.FLLEN
-          c.self.invariant.valid.some_rows clear e.step e.result.untouched;
+          c.self.invariant.valid.some_rows (subst (λ (o : HeapView). IsUntouched o.state.chunks c.args.range) (sym c.self.view_is) c.requires.untouched) e.step e.result.untouched;
       room = record {
         pool = e.result.pool;
         budget = e.result.budget;

@@ -1,5 +1,5 @@
 use Rattle.std.proofs.Common.{◌-◌}
-use Rattle.rlsf_heap.proofs.Arrivals.{lent_back, none_out}
+use Rattle.rlsf_heap.proofs.OnCores.{lent_back, none_out}
 use Rattle.rlsf_heap.proofs.heap.Heap.into_memory.Goals as goal
 
 pub returns-clause-own : goal.returns-clause-own

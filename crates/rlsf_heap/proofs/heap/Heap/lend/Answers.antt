@@ -13,10 +13,8 @@ use Rattle.rlsf_blocks.specs.Laws.{read_from}
 use Rattle.rlsf_heap.specs.Heap.{AreAmong, HeapView, Stands, lent_bytes}
 use Rattle.rlsf_heap.specs.Kept.{KeepsBytesBeside}
 use Rattle.rlsf_heap.specs.Lending.{KeepsStatesBeside}
-use Rattle.rlsf_heap.proofs.Lent.{IsChangedIn, IsHeap-lent, same_state, stands_lent}
-use Rattle.rlsf_heap.proofs.LentBytes.{lent_own, lent_still}
+use Rattle.rlsf_heap.proofs.Kept.{IsChangedIn, IsHeap-lent, same_state, stands_lent, lent_own, lent_still, settled-back}
 use Rattle.rlsf_heap.proofs.OnCores.{same_identity}
-use Rattle.rlsf_heap.proofs.Settled.{settled-back}
 use Rattle.rlsf_heap.proofs.heap.Heap.lend.Given as given
 use Rattle.rlsf_heap.proofs.heap.Heap.lend.Goals as goal
 use Rattle.rlsf_heap.proofs.heap.Heap.lend.Goals.{After-put_back}

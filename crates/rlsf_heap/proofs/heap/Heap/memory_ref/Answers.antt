@@ -1,4 +1,4 @@
-use Rattle.rlsf_heap.proofs.Arrivals.{Stands-view}
+use Rattle.rlsf_heap.proofs.OnCores.{Stands-view}
 use Rattle.rlsf_heap.proofs.heap.Heap.memory_ref.Goals as goal
 
 pub returns-clause-stands : goal.returns-clause-stands

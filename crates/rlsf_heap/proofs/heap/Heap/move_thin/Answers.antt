@@ -5,11 +5,9 @@ use Rattle.rlsf_model.specs.Callers.{align_at, bytes_at}
 use Rattle.rlsf_model.specs.Reallocate.{Keeps}
 use Rattle.rlsf_model.specs.Sized.{IsSizedFor, live_count}
 use Rattle.rlsf_heap.specs.Heap.{HeapView, IsWritten, PayloadView, Steps, payload_view}
-use Rattle.rlsf_heap.proofs.Found.{frame_found, settled_found}
-use Rattle.rlsf_heap.proofs.Frames.{frame_both}
-use Rattle.rlsf_heap.proofs.MovedThin.{move_step, new_is_other, others_stay}
-use Rattle.rlsf_heap.proofs.Reallocated.{Keeps-each}
-use Rattle.rlsf_heap.proofs.ThinPayloads.{some_address}
+use Rattle.rlsf_heap.proofs.Found.{frame_found, settled_found, move_step, new_is_other, others_stay, Keeps-each}
+use Rattle.rlsf_heap.proofs.Kept.{frame_both}
+use Rattle.rlsf_heap.proofs.Tickets.{some_address}
 use Rattle.rlsf_heap.proofs.heap.Heap.move_thin.Given as given
 use Rattle.rlsf_heap.proofs.heap.Heap.move_thin.Goals as goal
 

@@ -1,4 +1,4 @@
-use Rattle.std.proofs.Common.{ℕ, ◌<◌, true, true≢false, length, arith, ◌∙◌, ap, sym, subst}
+use Rattle.std.proofs.Common.{true, true≢false, arith, ◌∙◌, ap, sym, subst}
 use Rattle.rlsf_model.specs.Insert.{IsUntouched}
 use Rattle.rlsf_model.specs.Sized.{live_count}
 use Rattle.rlsf_model.specs.State.{State, empty}
@@ -7,10 +7,9 @@ use Rattle.rlsf_model.proofs.Untouched.{untouched_empty}
 use Rattle.rlsf_blocks.specs.Laws.{read_from}
 use Rattle.rlsf_blocks.specs.StandsFor.{contents, StandsFor}
 use Rattle.rlsf_blocks.proofs.RepresentedStates.EmptyState.{StandsFor-empty}
-use Rattle.rlsf_heap.specs.Heap.{AreAmong, AreIssued, lent_bytes}
-use Rattle.rlsf_heap.proofs.Arrivals.{IsHeap-arrived, Stands-arrived}
-use Rattle.rlsf_heap.proofs.LentBytes.{lent_own}
-use Rattle.rlsf_heap.proofs.Settled.{settled-none}
+use Rattle.rlsf_heap.specs.Heap.{AreAmong, lent_bytes}
+use Rattle.rlsf_heap.proofs.OnCores.{IsHeap-arrived, Stands-arrived, issued-none}
+use Rattle.rlsf_heap.proofs.Kept.{lent_own, settled-none}
 use Rattle.rlsf_heap.proofs.heap.Heap.over_lent.Given as given
 use Rattle.rlsf_heap.proofs.heap.Heap.over_lent.Goals as goal
 
@@ -18,14 +17,10 @@ use Rattle.rlsf_heap.proofs.heap.Heap.over_lent.Goals as goal
 standing : (g : given.Over) (c : goal.After-new-3 g) → StandsFor g.row.FLLEN g.row.SLLEN (contents c.args.memory c.new.result) empty
 standing g c = StandsFor-empty c.requires c.start.ensures.bounds (c.new.ensures c.args.memory)
 
-none_issued : (g : given.Over) (c : goal.After-new-3 g) → AreIssued empty c.new-3.result.entries
-none_issued g c =
-    let none : (k : ℕ) → k < length c.new-3.result.entries → ⊥ = λ k lt. omega (arith, lt, ap length c.new-3.ensures) in
-    record { issued = λ k v is. absurd (none k is.0); apart = λ j k v w is js at. absurd (none j is.0) }
-
 pub invariant_of-result : goal.invariant_of-result
-invariant_of-result g c = IsHeap-arrived (standing g c) c.new-2.result.state c.new-2.ensures c.requires c.new-3.result.entries (none_issued g c) 0 (sym live_count-empty)
-    (λ not_lent. absurd (true≢false not_lent))
+invariant_of-result g c =
+    IsHeap-arrived (standing g c) c.new-2.result.state c.new-2.ensures c.requires c.new-3.result.entries
+    (issued-none empty c.new-3.result.entries c.new-3.ensures) 0 (sym live_count-empty) (λ not_lent. absurd (true≢false not_lent))
 
 pub returns-clause-untouched : goal.returns-clause-untouched
 returns-clause-untouched g c = λ r. subst (λ (s : State). IsUntouched s.chunks r) (sym c.new-2.ensures) (untouched_empty r)

@@ -5,7 +5,7 @@ use Rattle.rlsf_heap.specs.Kept.{NoneBecomesRawBeside}
 use Rattle.rlsf_heap.proofs.Kept.{raw-back}
 use Rattle.rlsf_heap.proofs.OnCores.{stays}
 use Rattle.rlsf_heap.proofs.Released.{IsGiven, IsHeap-given, as_part, bounds_given, chunks_given, core_given, found_given, freed_given, gone_given, keeps_given, one_less, raw_given, step_given}
-use Rattle.rlsf_heap.proofs.Shown.{lies, live}
+use Rattle.rlsf_heap.proofs.Tickets.{lies, live}
 use Rattle.rlsf_heap.proofs.heap.Heap.put_raw.Given as given
 use Rattle.rlsf_heap.proofs.heap.Heap.put_raw.Goals as goal
 use Rattle.rlsf_heap.proofs.heap.Heap.put_raw.Goals.{After-put_thin_room}

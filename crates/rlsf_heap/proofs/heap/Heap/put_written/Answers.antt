@@ -2,11 +2,10 @@ use Rattle.std.proofs.Common.{length, false, set, arith, refl, sym, ap, ◌∙�
 use Rattle.rlsf_base.specs.Ledger.{Extent, entry_of, extent}
 use Rattle.rlsf_heap.specs.Heap.{PayloadView, payload_view}
 use Rattle.rlsf_heap.specs.Kept.{NoneBecomesRaw}
-use Rattle.rlsf_heap.proofs.Kept.{raw-stays}
+use Rattle.rlsf_heap.proofs.Kept.{raw-stays, settled-stays}
 use Rattle.rlsf_heap.proofs.OnCores.{stays}
 use Rattle.rlsf_heap.proofs.Released.{IsGiven, IsHeap-given, as_part, bounds_given, chunks_given, core_given, found_given, freed_given, gone_given, keeps_given, one_less, step_given}
-use Rattle.rlsf_heap.proofs.Settled.{settled-stays}
-use Rattle.rlsf_heap.proofs.Shown.{live}
+use Rattle.rlsf_heap.proofs.Tickets.{live}
 use Rattle.rlsf_heap.proofs.TakenBack.{IsBack, back_as, given_back, raw_back, settled_before, without}
 use Rattle.rlsf_heap.proofs.heap.Heap.put_written.Given as given
 use Rattle.rlsf_heap.proofs.heap.Heap.put_written.Goals as goal

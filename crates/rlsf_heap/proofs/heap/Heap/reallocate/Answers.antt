@@ -15,8 +15,8 @@ use Rattle.rlsf_tlsf.specs.Results.{KeepsFrameMoving as CoreFrame}
 use Rattle.rlsf_tlsf.proofs.Relocated.{end_relocated}
 use Rattle.rlsf_heap.specs.Heap.{HeapView, Steps}
 use Rattle.rlsf_heap.specs.Reallocation.{owned_by}
-use Rattle.rlsf_heap.proofs.Arrivals.{Steps-arrived, bare-kept}
-use Rattle.rlsf_heap.proofs.Frames.{bytes_same, heap_same, refused_same}
+use Rattle.rlsf_heap.proofs.OnCores.{Steps-arrived, bare-kept}
+use Rattle.rlsf_heap.proofs.Kept.{bytes_same, heap_same, refused_same}
 use Rattle.rlsf_heap.proofs.TakenBack.{IsAt, IsBack, IsHeap-over, core_back, count_back, frame_over, here_there, kept_same, lies_over, own_over, payload_back, range_back}
 use Rattle.rlsf_heap.proofs.TakenBack.{bytes_are, reads_over, refused_over, relocated_at, resized_over, seen_back, sized_back, sized_over, step_over, taken_back, there_at, told_as}
 use Rattle.rlsf_heap.proofs.heap.Heap.reallocate.Given as given
@@ -91,7 +91,6 @@ returns-in_default-moved g c =
     let place = c.addr-addr.ensures in
     let sizes = c.in-Ok.ensures.layout.0 in
     let told = c.in-Ok.ensures.layout.1 ∙ c.align-align.ensures in
-    let named = c.hand_over-payload.ensures.name ∙ c.take_back.ensures.name in
     let at = stayed g d in
     let whole = whole g d in
     let frame = told_as place sizes told (λ a size wide. CoreFrame a size (allocator n c.self.inside.table j) (allocator o c.reallocate_in-moved.new.table k)) e.frame in
@@ -107,7 +106,7 @@ returns-in_default-moved g c =
           (told_as place sizes told (λ a size wide. KeepsBounds g.row.SLLEN (read_from n j) (read_from o k) size wide) e.bounds);
       refused = refused_over is pay back e.left at whole c.align-align.ensures over ledger label c.take_back.ensures.name e.refused.same e.refused.bytes refl
           (here_there is pay back e.left (kept g d));
-      frame = frame_over is pay back e.left at whole c.align-align.ensures over ledger label named c.args.size frame;
+      frame = frame_over is pay back e.left at whole c.align-align.ensures over ledger label (c.hand_over-payload.ensures.name ∙ c.take_back.ensures.name) c.args.size frame;
       touches = omega (arith, e.left.costs.touches, over.counts.0, back.counts.0);
     })
 
@@ -171,7 +170,6 @@ returns g c =
     let place = c.addr-addr.ensures in
     let sizes = c.in-Ok.ensures.layout.0 in
     let told = c.in-Ok.ensures.layout.1 ∙ c.align-align.ensures in
-    let named = c.hand_over-payload-2.ensures.name ∙ c.take_back.ensures.name in
     let p = c.hand_over-payload-2.result in
     let at = moved g d in
     let whole = long g d c.next_multiple_of_32-end.ensures.value refl in
@@ -198,7 +196,7 @@ returns g c =
       bounds = sized_over is pay back e.left at whole c.align-align.ensures over c.args.size
           (told_as place sizes told (λ a size wide. KeepsBounds g.row.SLLEN (read_from n j) (read_from o k) size wide) e.bounds);
       refused = tt;
-      frame = frame_over is pay back e.left at whole c.align-align.ensures over ledger label named c.args.size frame;
+      frame = frame_over is pay back e.left at whole c.align-align.ensures over ledger label (c.hand_over-payload-2.ensures.name ∙ c.take_back.ensures.name) c.args.size frame;
       touches = omega (arith, e.left.costs.touches, over.counts.0, back.counts.0);
     })
 

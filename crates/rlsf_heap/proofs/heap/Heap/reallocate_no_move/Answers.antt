@@ -5,7 +5,7 @@ use Rattle.rlsf_model.specs.NoMove.{ReallocatesWithoutMove}
 use Rattle.rlsf_tlsf.specs.CoreResizes.{stayed_if}
 use Rattle.rlsf_heap.specs.Heap.{PayloadView, Stands, Steps, payload_view}
 use Rattle.rlsf_heap.specs.Reallocation.{owned_by}
-use Rattle.rlsf_heap.proofs.Frames.{frame_same, refused_same}
+use Rattle.rlsf_heap.proofs.Kept.{frame_same, refused_same}
 use Rattle.rlsf_heap.proofs.heap.Heap.reallocate_no_move.Given as given
 use Rattle.rlsf_heap.proofs.heap.Heap.reallocate_no_move.Goals as goal
 use Rattle.rlsf_heap.proofs.heap.Heap.reallocate_no_move.Goals.{After-resize_part-done}

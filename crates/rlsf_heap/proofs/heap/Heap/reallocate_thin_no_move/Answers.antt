@@ -39,7 +39,6 @@ returns-in-Err g c =
     record { heap = c.find_payload-payload.ensures.heap; same = c.find_payload-payload.ensures.payload; at = c.requires.some.0; wide = c.requires.some.2 } in
     let thin = c.into_thin-in-Err.ensures.1 in
     let new = c.reallocate_no_move.new.self in
-    let as_now = as_found f c.in-Err.payload c.into_thin-in-Err.result.of thin in
     record {
       step = step_found f g.row.FLLEN g.row.SLLEN new c.args.size (λ s addr to t. ReallocatesWithoutMove s addr c.args.size to t) None None refl e.step;
       result = tt;

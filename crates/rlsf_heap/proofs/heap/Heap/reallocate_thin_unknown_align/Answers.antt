@@ -1,13 +1,13 @@
 use Rattle.std.proofs.Common.{◌≤◌, arith, true≢false, refl, sym, ap, subst, ◌∙◌}
 use Rattle.rlsf_model.specs.Callers.{align_at}
 use Rattle.rlsf_model.specs.State.{AreAlike}
-use Rattle.rlsf_heap.specs.Heap.{IsWritten, PayloadView, payload_range}
+use Rattle.rlsf_heap.specs.Heap.{IsWritten, PayloadView}
+use Rattle.rlsf_heap.specs.Kept.{KeepsBytesBeside}
 use Rattle.rlsf_heap.specs.Reallocation.{owned_by}
 use Rattle.rlsf_heap.specs.Replies.{IsReallocated}
 use Rattle.rlsf_heap.specs.ThinReplies.{thin_moved_to}
-use Rattle.rlsf_heap.proofs.Frames.{frame_both}
-use Rattle.rlsf_heap.proofs.Kept.{beside-last}
-use Rattle.rlsf_heap.proofs.UnknownAlign.{if_err, if_ok, reallocated_as, step_moves, step_stays}
+use Rattle.rlsf_heap.proofs.Kept.{frame_both, same-byte}
+use Rattle.rlsf_heap.proofs.Found.{if_err, if_ok, reallocated_as, step_moves, step_stays}
 use Rattle.rlsf_heap.proofs.heap.Heap.reallocate_thin_unknown_align.Goals as goal
 
 pub returns-in-Ok : goal.returns-in-Ok
@@ -15,12 +15,11 @@ returns-in-Ok g c =
     let e = c.in-Ok.ensures in
     let there = e.result.of in
     let new = c.resize_thin_unknown_align.new.self in
-    let old = c.args.self.now in
     let p = c.in-Ok.payload in
     let pay = c.args.payload.of in
     let layout = c.args.layout in
     record {
-      step = step_stays g.row.SLLEN (owned_by old.state pay) c.args.addr layout.size layout.align g.row.FLLEN new p.of.start e.step;
+      step = step_stays g.row.SLLEN (owned_by c.args.self.now.state pay) c.args.addr layout.size layout.align g.row.FLLEN new p.of.start e.step;
       result = record {
         at = e.result.at;
         of = record {
@@ -54,6 +53,7 @@ move_thin-requires g c =
     )
 
 pub returns-in-Err : goal.returns-in-Err
+unfolding KeepsBytesBeside
 returns-in-Err g c =
     let e = c.in-Err.ensures in
     let f = c.move_thin.ensures in
@@ -61,20 +61,18 @@ returns-in-Err g c =
     let old = c.args.self.now in
     let mid = c.resize_thin_unknown_align.new.self in
     let new = c.move_thin.new.self in
-    let p = c.in-Err.payload.of in
     let pay = c.args.payload.of in
-    let addr = c.args.addr in
     let size = c.args.layout.size in
     let align = c.args.layout.align in
     let u = e.refused.of in
     let was = u.refused in
     record {
-      step = step_moves g.row.SLLEN (owned_by old.state pay) addr size align g.row.FLLEN new mid (thin_moved_to r) e.step f.step;
+      step = step_moves g.row.SLLEN (owned_by old.state pay) c.args.addr size align g.row.FLLEN new mid (thin_moved_to r) e.step f.step;
       result = if_ok r (λ q is. record {
         at = is.at;
         of = record {
           identity = is.of.identity ∙ e.frame.heap.identity;
-          made = reallocated_as new.state p pay q.of size align was.returned.bytes is.of.requested is.of.made;
+          made = reallocated_as new.state c.in-Err.payload.of pay q.of size align was.returned.bytes is.of.requested is.of.made;
           written = is.of.written;
           others = record {
             some = is.of.others.some;
@@ -108,7 +106,7 @@ returns-in-Err g c =
               alike = subst (AreAlike old.state) (sym is.of.unchanged.same) was.returned.alike;
               aligns = ap align_at is.of.unchanged.same ∙ was.returned.aligns;
             };
-            unchanged = beside-last old mid new (payload_range pay) f.frame.heap.place.0 is.of.unchanged.bytes was.unchanged;
+            unchanged = λ a from to side. same-byte mid.memory new.memory f.frame.heap.place.0 is.of.unchanged.bytes a ∙ was.unchanged a from to side;
           };
           live = u.live;
         };

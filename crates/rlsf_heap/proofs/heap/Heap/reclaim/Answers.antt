@@ -9,13 +9,8 @@ use Rattle.rlsf_blocks.specs.Laws.{read_from}
 use Rattle.rlsf_heap.specs.Heap.{AreAmong, HeapView, IsLent, Stands, lent_bytes}
 use Rattle.rlsf_heap.specs.Kept.{KeepsBytesBeside}
 use Rattle.rlsf_heap.specs.Lending.{KeepsStatesBeside}
-use Rattle.rlsf_heap.proofs.Kept.{same-byte}
-use Rattle.rlsf_heap.proofs.Lent.{IsChangedIn, IsHeap-lent, same_state, stands_lent}
-use Rattle.rlsf_heap.proofs.LentBytes.{lent_still}
+use Rattle.rlsf_heap.proofs.Kept.{same-byte, IsChangedIn, IsHeap-lent, same_state, stands_lent, lent_still, out-left, owned_range, settled-here, settled-left}
 use Rattle.rlsf_heap.proofs.OnCores.{same_identity}
-use Rattle.rlsf_heap.proofs.Read.{out-left}
-use Rattle.rlsf_heap.proofs.Rest.{owned_range}
-use Rattle.rlsf_heap.proofs.Settled.{settled-here, settled-left}
 use Rattle.rlsf_heap.proofs.heap.Heap.reclaim.Given as given
 use Rattle.rlsf_heap.proofs.heap.Heap.reclaim.Goals as goal
 use Rattle.rlsf_heap.proofs.heap.Heap.reclaim.Goals.{After-take_out}

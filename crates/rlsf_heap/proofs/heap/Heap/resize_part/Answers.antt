@@ -17,7 +17,7 @@ use Rattle.rlsf_tlsf.proofs.Reached.{read_from-counted}
 use Rattle.rlsf_tlsf.proofs.Relocated.{ends_held}
 use Rattle.rlsf_heap.specs.Handover.{IsHandedOver}
 use Rattle.rlsf_heap.specs.Heap.{AreIssued, HeapView, Identity, IsPayload, PayloadView, payload_view}
-use Rattle.rlsf_heap.proofs.ResizedParts.{issued_renewed}
+use Rattle.rlsf_heap.proofs.Tickets.{issued_renewed}
 use Rattle.rlsf_heap.proofs.TakenBack.{IsAt, IsBack, IsHeap-over, back_as, bytes_over, core_back, found_back, here_there, keeps_over, lies_over, live_back, live_before, no_room, own_over}
 use Rattle.rlsf_heap.proofs.TakenBack.{range_back, reads_over, refused_over, resized_over, seen_back, sized_back, sized_over, step_over, there_at, bytes_are, without}
 use Rattle.rlsf_heap.proofs.heap.Heap.resize_part.Given as given
@@ -85,9 +85,8 @@ module _ (g : given.Over) (c : After-resize_in-done g) where
   -- it ends at the first multiple of 32 behind its size
   ends : c.resize_in-done.result ≡ true → round32 (c.args.part.start + c.args.layout.size) ≡ c.args.part.start + length (bytes_at t c.args.part.start)
   ends did =
-      let stands = c.resize_in-done.ensures.left.core.stands in
       let (u, holds, _) = align_at-live t c.args.part.start c.args.ticket.align there.live in
-      omega (arith, (resized_now did).sized, (resized_now did).few, ends_held stands c.args.part.start u holds)
+      omega (arith, (resized_now did).sized, (resized_now did).few, ends_held c.resize_in-done.ensures.left.core.stands c.args.part.start u holds)
 
   lies : (c.resize_in-done.new.memory.start ≤ c.args.part.start)
       × (c.args.part.start + length (bytes_at t c.args.part.start) ≤ c.resize_in-done.new.memory.start + length c.resize_in-done.new.memory.bytes)
@@ -194,7 +193,6 @@ returns g c =
     let before = read_from m c.self.inside.state.state in
     let ledger = c.self.inside.ledger.name in
     let label = c.renewed-ticket-2.new.ledger.name in
-    let named = c.renewed-ticket-2.ensures.ledger.0 ∙ c.renewed-ticket.ensures.ledger.0 in
     let name : c.renewed-ticket-2.result.name ≡ ledger =
     c.renewed-ticket-2.ensures.ticket.0 ∙ c.renewed-ticket.ensures.ticket.0 ∙ ap (λ (i : Identity). i.ledger) c.requires.identity
     ∙ sym (ap (λ (v : HeapView). v.identity.ledger) c.self.view_is) in
@@ -232,7 +230,7 @@ returns g c =
       bounds = sized_over is pay back e.left at whole aligned over size (λ most longest wide sized short fits.
           told g f (λ a. KeepsBoundsThere g.row.SLLEN (s g f) (t g f) a size) e.bounds most longest wide c.args.ticket.align sized (live_back is pay back) short fits);
       frame = record {
-        heap = keeps_over is pay back e.left at whole aligned over kept.chunks ledger label named;
+        heap = keeps_over is pay back e.left at whole aligned over kept.chunks ledger label (c.renewed-ticket-2.ensures.ledger.0 ∙ c.renewed-ticket.ensures.ledger.0);
         bytes = bytes_over is pay back e.left at whole aligned over ledger label;
         chunks = reads (λ (x : State). x.chunks ≡ before.chunks) kept.chunks;
         copied = take.counts.1 ∙ (let e : c.resize_in-done.new.memory.copied ≡ m.copied = omega (arith, e.left.costs.copied, put.counts.1) in e);

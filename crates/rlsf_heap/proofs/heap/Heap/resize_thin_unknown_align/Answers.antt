@@ -41,7 +41,6 @@ returns-then-not-done-clause-frame g c = framed g (goal.at.returns-then-not-done
 pub returns-clause-result : goal.returns-clause-result
 returns-clause-result g c =
     let f = found g (goal.at.returns-clause-result g c).After-resize_part-done in
-    let new = c.resize_part-done.new.self in
     let r = c.resize_part-done.result in
     let e = c.resize_part-done.ensures in
     let is = e.result c.if-not-done.false in
@@ -49,7 +48,7 @@ returns-clause-result g c =
     let thin = c.from_parts-payload.ensures.1 in record {
       at = c.from_parts-payload.ensures.0 ∙ sym (e.place.0 ∙ ap (λ (o : PayloadView). o.start) (f.same) ∙ f.at) ∙ ap (λ (o : PayloadView). o.start) (sym thin);
       of = record {
-        resized = resized_found f c.args.layout.size new made c.from_parts-payload.result.of thin is.resized;
+        resized = resized_found f c.args.layout.size c.resize_part-done.new.self made c.from_parts-payload.result.of thin is.resized;
         start = as_found f made c.from_parts-payload.result.of thin (λ v from addr align to. to.start ≡ addr) is.start;
         live = c.find_part-part.ensures.live;
         aligns = is.aligns ∙ ap (λ (v : HeapView). align_at v.state) f.heap;

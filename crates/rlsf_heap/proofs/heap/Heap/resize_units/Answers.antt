@@ -18,13 +18,11 @@ use Rattle.rlsf_heap.specs.Frame.{KeepsFrameBeside, KeepsSized}
 use Rattle.rlsf_heap.specs.Heap.{AreIssued, HeapView, Identity, IsHeapOf, Stands, Steps, heap_view}
 use Rattle.rlsf_heap.specs.Kept.{KeepsBytesBeside, KeepsOwn, NoneBecomesRawBeside}
 use Rattle.rlsf_heap.specs.Units.{IsInPlace, payload_len}
-use Rattle.rlsf_heap.proofs.Kept.{raw-tail, same-byte, spare-first, spare-last}
-use Rattle.rlsf_heap.proofs.LentBytes.{lent_kept}
+use Rattle.rlsf_heap.proofs.Kept.{raw-tail, same-byte, spare-first, spare-last, lent_kept, outside_unlent, rest_kept}
 use Rattle.rlsf_heap.proofs.OnCores.{heap-over, same_identity, stays}
-use Rattle.rlsf_heap.proofs.UnitPayloads.{payload_len-whole}
-use Rattle.rlsf_heap.proofs.Shown.{IsReturned, block, held, lies, live, outside-back, stands-back}
-use Rattle.rlsf_heap.proofs.Rest.{outside_unlent, rest_kept}
-use Rattle.rlsf_heap.proofs.ResizedUnits.{begins_at, now-issued, now-lies, now-outside, now-own, now-stands, own-behind, readable, resized-long, same-long, shrinks, start-fits}
+use Rattle.rlsf_heap.proofs.Tickets.{IsReturned, block, held, lies, live, outside-back, stands-back}
+use Rattle.rlsf_heap.proofs.Released.{payload_len-whole, begins_at, now-issued, now-lies, now-outside, now-own, now-stands, own-behind, readable, resized-long, same-long, shrinks}
+use Rattle.rlsf_heap.proofs.Released.{start-fits}
 use Rattle.rlsf_heap.proofs.heap.Heap.resize_units.Given as given
 use Rattle.rlsf_heap.proofs.heap.Heap.resize_units.Goals as goal
 use Rattle.rlsf_heap.proofs.heap.Heap.resize_units.Goals.{After-put_unit_payload-block, After-resize_block_in}
@@ -53,11 +51,10 @@ pub resize_block_in-requires : goal.resize_block_in-requires
 resize_block_in-requires g c =
     let b = back g (goal.at.resize_block_in-requires g c).After-put_unit_payload-block in
     let is = c.self.invariant in
-    let k = c.self.inside.state.state in
     let n = c.put_unit_payload-block.new.self in
     let e = c.put_unit_payload-block.ensures in
     let size = c.from_size_align_unchecked-sought.ensures.0 in
-    let same = read_from-same c.self.inside.memory n k e.memory.start e.memory.bytes in
+    let same = read_from-same c.self.inside.memory n c.self.inside.state.state e.memory.start e.memory.bytes in
     let (starts, at) = begins_at b.shown c.put_unit_payload-block.result e.word in
     let there = held b.shown in (
       omega arith,
@@ -261,12 +258,10 @@ pub returns-then-not-resize_block_in : goal.returns-then-not-resize_block_in
 unfolding Steps Stands KeepsBytesBeside
 returns-then-not-resize_block_in g c =
     let d = (goal.at.returns-then-not-resize_block_in g c).After-resize_block_in in
-    let m = c.self.inside.memory in
     let q = c.take_unit_payload.new.self in
     let put = c.put_unit_payload-block.ensures in
     let e = c.take_unit_payload.ensures in
     let no = c.if-not-resize_block_in.true in
-    let left = c.resize_block_in.ensures.left in
     let counts = (c.resize_block_in.ensures.refused no).counts in
     let is = as_left g d c.take_unit_payload.new.self e.memory.start e.memory.bytes in
     let within = c.args.payload.within.0 in
@@ -281,11 +276,11 @@ returns-then-not-resize_block_in g c =
         place = in_place g d q e.memory.start e.memory.bytes c.args.payload.len within long c.requires.len e.place (e.ticket.0 ∙ c.issue-ticket.ensures.name.0 ∙ put.ledger.0);
         same = same_as g d c.take_unit_payload.new.self e.memory.start e.memory.bytes no;
         aligns = (keeps g d is).aligns;
-        unchanged = λ a from to side. same-byte m q (e.memory.start ∙ counts.start ∙ put.memory.start) (e.memory.bytes ∙ counts.bytes ∙ put.memory.bytes) a;
+        unchanged = λ a from to side. same-byte c.self.inside.memory q (e.memory.start ∙ counts.start ∙ put.memory.start) (e.memory.bytes ∙ counts.bytes ∙ put.memory.bytes) a;
       };
       frame = frame g d q e.memory.start e.memory.bytes c.args.payload.len within long c.requires.len e.memory.view e.counts.0 e.counts.1 e.memory.out
           (c.issue-ticket.ensures.name.1 ∙ put.ledger.0);
-      touches = omega (arith, e.counts.0, left.costs.touches, put.counts.0);
+      touches = omega (arith, e.counts.0, c.resize_block_in.ensures.left.costs.touches, put.counts.0);
     })
 
 -- ---- the payload has the other size
@@ -331,7 +326,6 @@ returns g c =
     let put = c.put_unit_payload-block.ensures in
     let e = c.take_unit_payload-2.ensures in
     let yes = c.if-not-resize_block_in.false in
-    let left = c.resize_block_in.ensures.left in
     let is = as_left g d c.take_unit_payload-2.new.self e.memory.start e.memory.bytes in
     let now = payload_len c.args.size in
     let long = as_wanted g d c.take_unit_payload-2.new.self e.memory.start e.memory.bytes yes in
@@ -353,5 +347,5 @@ returns g c =
       refused = tt;
       frame = frame g d c.take_unit_payload-2.new.self e.memory.start e.memory.bytes now (fits g early) long wanted e.memory.view e.counts.0 e.counts.1 e.memory.out
           (c.issue-ticket-2.ensures.name.1 ∙ put.ledger.0);
-      touches = omega (arith, e.counts.0, left.costs.touches, put.counts.0);
+      touches = omega (arith, e.counts.0, c.resize_block_in.ensures.left.costs.touches, put.counts.0);
     })

@@ -2,15 +2,14 @@ use Rattle.std.proofs.Common.{arith, refl, sym, ◌∙◌}
 use Rattle.rlsf_blocks.specs.Blocks.{walked}
 use Rattle.rlsf_heap.specs.Heap.{Stands, Steps}
 use Rattle.rlsf_tlsf.proofs.IdleRows.{idle_if, used_if}
-use Rattle.rlsf_heap.proofs.Frames.{payloads_same}
+use Rattle.rlsf_heap.proofs.Kept.{payloads_same}
 use Rattle.rlsf_heap.proofs.heap.Heap.try_remove_pool.Goals as goal
 
 pub returns-then-any_used-clause-step : goal.returns-then-any_used-clause-step
 unfolding Steps Stands
 returns-then-any_used-clause-step g c =
     let stands = c.memory_ref.ensures.stands in
-    let used = sym c.any_used.ensures ∙ c.if-any_used.true in
-    ((used_if stands.well_formed (walked c.args.range) c.requires c.iter_blocks.result c.iter_blocks.ensures.blocks used, refl), stands)
+    ((used_if stands.well_formed (walked c.args.range) c.requires c.iter_blocks.result c.iter_blocks.ensures.blocks (sym c.any_used.ensures ∙ c.if-any_used.true), refl), stands)
 
 pub remove_pool-requires : goal.remove_pool-requires
 unfolding Stands

@@ -3,8 +3,7 @@ use Rattle.rlsf_base.specs.declared.memory.range.Range.{Range}
 use Rattle.rlsf_model.specs.Callers.{align_at, bytes_at}
 use Rattle.rlsf_blocks.specs.Laws.{read_from}
 use Rattle.rlsf_heap.specs.Heap.{HeapView, Identity, heap_view}
-use Rattle.rlsf_heap.proofs.PayloadsApart.{shown_live, shown_long}
-use Rattle.rlsf_heap.proofs.ThinPayloads as P
+use Rattle.rlsf_heap.proofs.Tickets as P
 use Rattle.rlsf_heap.proofs.heap.Heap.usable_thin.Goals as goal
 
 pub checked-payload-requires : goal.checked-payload-requires
@@ -27,8 +26,8 @@ returns g c =
           c.usable_bytes-range.ensures);
       payload = c.checked-payload.ensures.payload;
       live = subst (λ (v : HeapView). align_at v.state c.args.addr ≡ Some of.align) c.self.view_is
-          (subst (λ a. align_at (read_from m c.self.inside.state.state) a ≡ Some of.align) c.requires.some.0 (shown_live w (P.shown of) one));
+          (subst (λ a. align_at (read_from m c.self.inside.state.state) a ≡ Some of.align) c.requires.some.0 (P.shown_live w (P.shown of) one));
       long = subst (λ (v : HeapView). length of.bytes ≡ length (bytes_at v.state c.args.addr)) c.self.view_is
-          (subst (λ a. length of.bytes ≡ length (bytes_at (read_from m c.self.inside.state.state) a)) c.requires.some.0 (shown_long w (P.shown of) one));
+          (subst (λ a. length of.bytes ≡ length (bytes_at (read_from m c.self.inside.state.state) a)) c.requires.some.0 (P.shown_long w (P.shown of) one));
       same = (λ i. heap_view m c.self.inside.table c.self.inside.state.state (c.checked-payload.ensures.ledger i).name c.self.inside.lent) ∙ c.self.view_is;
     }

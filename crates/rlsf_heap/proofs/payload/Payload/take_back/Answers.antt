@@ -14,9 +14,8 @@ put_back-requires-clause-full c = subst (λ (p : PayloadView). IsWritten p) (sym
 pub returns-clause-back : goal.returns-clause-back
 returns-clause-back c =
     let e = c.put_back.ensures in
-    let is = c.redeemed-part.ensures.parts in
     let m = c.args.memory.now in record {
-      memory = subst (λ (p : PayloadView). IsSpaceWith m c.put_back.new.self (with_bytes m p.start p.bytes) (out_with m (payload_range p))) is e.memory;
+      memory = subst (λ (p : PayloadView). IsSpaceWith m c.put_back.new.self (with_bytes m p.start p.bytes) (out_with m (payload_range p))) c.redeemed-part.ensures.parts e.memory;
       long = e.back.len;
       counts = e.counts;
       entries = c.redeemed-part.ensures.entries;

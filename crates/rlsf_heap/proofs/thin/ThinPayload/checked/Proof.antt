@@ -23,8 +23,7 @@ use Rattle.rlsf_base.specs.Piece.{piece_owns}
 use Rattle.rlsf_base.specs.contracts.memory.ledger.Ledger as ledger
 use Rattle.rlsf_heap.specs.Raw.{CanComeBack, bytes_of}
 use Rattle.rlsf_heap.specs.Thin.{owns_at}
-use Rattle.rlsf_heap.proofs.ThinTickets.{shows_live}
-use Rattle.rlsf_heap.proofs.ThinValues.{addr_val, addr_own, addr_made, addr_told, addr_typed, one_more_than, payload_Tells, payload_vals}
+use Rattle.rlsf_heap.proofs.ThinValues.{shows_live, addr_val, addr_own, addr_made, addr_told, addr_typed, one_more_than, payload_Tells, payload_vals}
 use Rattle.rlsf_heap.specs.contracts.thin.ThinPayload as thin
 use Rattle.rlsf_heap.specs.contracts.thin.ThinPayload.checked as f
 use Rattle.rlsf_heap.proofs.thin.ThinPayload.checked.Statement.{statement}

@@ -12,19 +12,18 @@ use types.Kit.{regoal, suffices, fsplit}
 use types.Part.{agg}
 use types.Run.{enter, of_opd, no_more, and_then, returns}
 use types.ByLocal.{alloc_all, pass_all, free_all, look_at, get, sets, lands_as}
-use denote.Builtin.{unit, usize}
+use denote.Builtin.{unit}
 use denote.Exit.{rest, yes}
 use denote.Param.{layout}
 use denote.RattleType.{owns}
-use denote.Signature.{plain, types_at}
+use denote.Signature.{types_at}
 use denote.Steps.{nothing, heard, only}
 use denote.Triple.Call.{calls_at}
 use denote.Triple.Clauses.{lasts, Lasts}
 use denote.Triple.Entry.{alive}
 use denote.Triple.Spec.{triple_of}
-use denote.Triple.Walked.{says, Stays, walk_of, stay_dropped, Goes-dropped, ends_at}
+use denote.Triple.Walked.{says, walk_of, ends_at}
 use denote.Triple.Table.{framed}
-use Rattle.core.proofs.alloc.Calls.{Goes-blank}
 use Rattle.core.proofs.cell.Inside.{one}
 use Rattle.std.proofs.raw_atomic.Walks.{proved_at}
 use Rattle.rlsf_base.specs.Ledger.{extent, ticket_owns}
@@ -40,7 +39,7 @@ use Rattle.rlsf_base.proofs.memory.ledger.Ticket.into_raw.Met.{met as ticket_met
 use Rattle.rlsf_heap.specs.Heap.{IsTicketOf, PayloadView, payload_view}
 use Rattle.rlsf_heap.specs.Raw.{CanComeBack}
 use Rattle.rlsf_heap.specs.Thin.{owns_at}
-use Rattle.rlsf_heap.proofs.ThinValues.{addr_val, addr_own, addr_made, one_more_than}
+use Rattle.rlsf_heap.proofs.ThinValues.{addr_val, addr_own, addr_made, one_more_than, dropped, all_go}
 use Rattle.rlsf_heap.specs.contracts.thin.ThinPayload as raw_payload
 use Rattle.rlsf_heap.specs.contracts.thin.ThinPayload.from_parts as f
 use Rattle.rlsf_heap.proofs.thin.ThinPayload.from_parts.Statement.{statement}
@@ -53,14 +52,10 @@ from_parts_spec 𝓤 𝓛 𝓜 𝓡 wired =
     let c = f.clauses 𝓛 𝓜.mem 𝓡.returns in
     let fn : Fn = code.function in
     let P = part.the_row in let T = ticket_type.the_row in
-    let stays : Stays En₀.signature.params En₀.kept =
-    (stay_dropped (plain (λ _. usize)) En₀.kept.0, (stay_dropped (plain (λ _. P)) En₀.kept.1.0, (stay_dropped (plain (λ _. T)) En₀.kept.1.1.0, tt))) in
+    let stays = dropped En₀.signature.params En₀.kept in
     let C = (tables 𝓤 H 𝓜 𝓡 𝓡.env).C in
     let Λ = (tables 𝓤 H 𝓜 𝓡 𝓡.env).Λ in
-    proved_at 𝓛 En₀ stays c 𝓜 𝓡 (
-      Goes-dropped 𝓛 0 (plain (λ _. usize)) En₀.kept.0 (λ κs x w. refl),
-      (Goes-blank 𝓛 0 (plain (λ _. P)) En₀.kept.1.0 (λ κs x w. tt), (Goes-blank 𝓛 0 (plain (λ _. T)) En₀.kept.1.1.0 (λ κs x w. tt), tt)),
-    ) f.Key.name fn
+    proved_at 𝓛 En₀ stays c 𝓜 𝓡 (all_go 𝓛 0 En₀.signature.params En₀.kept ((λ κs x w. tt), ((λ κs x w. tt), ((λ κs x w. tt), tt)))) f.Key.name fn
     (code.unfolded 𝓤 H 𝓜 𝓡 wired) (λ z are.
     let Post : Val → SProp 𝓤 = (walk_of 𝓛 En₀ stays c).post z in
     let a = z.0.3 in

@@ -11,15 +11,14 @@ use types.Run.{of_opd, no_more, and_then, returns, enter}
 use types.ByLocal.{alloc_all, pass_all, free_all, look_at, get, sets, lands_as}
 use denote.RattleType.{RattleType, owns}
 use denote.Laws.{Is, shows}
-use denote.Signature.{plain, types_at}
+use denote.Signature.{types_at}
 use denote.Steps.{nothing, heard, peeks, only}
 use denote.Struct.Tuple.{Tuple}
 use denote.Triple.Call.{calls_at}
 use denote.Triple.Clauses.{lasts, Lasts}
 use denote.Triple.Spec.{triple_of}
-use denote.Triple.Walked.{Stays, walk_of, stay_dropped, ends_at}
+use denote.Triple.Walked.{walk_of, ends_at}
 use denote.Triple.Table.{framed}
-use Rattle.core.proofs.alloc.Calls.{Goes-blank}
 use Rattle.core.proofs.mem.Facts.{says_two}
 use Rattle.std.proofs.raw_atomic.Walks.{proved}
 use Rattle.rlsf_base.specs.Ledger.{Extent, extent, ticket_owns}
@@ -31,23 +30,17 @@ use Rattle.rlsf_base.specs.contracts.memory.ledger.Ticket.from_raw as g
 use Rattle.rlsf_base.proofs.memory.ledger.Ticket.from_raw.Met.{met as raw_met}
 use Rattle.rlsf_heap.specs.Raw.{CanComeBack, bytes_of}
 use Rattle.rlsf_heap.specs.Thin.{owns_at}
-use Rattle.rlsf_heap.proofs.ThinValues.{addr_val, addr_told, addr_typed, one_more_than, payload_Tells, payload_vals}
+use Rattle.rlsf_heap.proofs.ThinValues.{addr_val, addr_told, addr_typed, one_more_than, payload_Tells, payload_vals, dropped, all_go}
 use Rattle.rlsf_base.specs.contracts.memory.thin_bytes.ThinBytes as bytes_type
-use Rattle.rlsf_heap.specs.contracts.thin.ThinPayload as raw_payload
 use Rattle.rlsf_heap.specs.contracts.thin.ThinPayload.into_parts as f
 use Rattle.rlsf_heap.proofs.thin.ThinPayload.into_parts.Statement.{statement}
 use Rattle.rlsf_heap.proofs.thin.ThinPayload.into_parts.Code as code
 
-abbrev stayed : Stays f.ended.signature.params f.ended.kept
-stayed = (stay_dropped (plain (λ _. raw_payload.the_row)) f.ended.kept.0, tt)
-
 pub into_parts_spec : {M : Type 1} → statement M
 into_parts_spec 𝓤 𝓛 𝓜 𝓡 wired =
-    let c = f.clauses 𝓛 𝓜.mem 𝓡.returns in let W = walk_of 𝓛 f.ended stayed c in
+    let stayed = dropped f.ended.signature.params f.ended.kept in let c = f.clauses 𝓛 𝓜.mem 𝓡.returns in let W = walk_of 𝓛 f.ended stayed c in
     let B = bytes_type.the_row in let T = ticket_type.the_row in
-    proved 𝓛 f.ended stayed c 𝓜 𝓡
-    (Goes-blank 𝓛 0 (plain (λ _. raw_payload.the_row)) f.ended.kept.0 (λ κs x w. tt), tt)
-    f.Key.name code.function (code.unfolded 𝓤 𝓛.H 𝓜 𝓡 wired)
+    proved 𝓛 f.ended stayed c 𝓜 𝓡 (all_go 𝓛 0 f.ended.signature.params f.ended.kept ((λ κs x w. tt), tt)) f.Key.name code.function (code.unfolded 𝓤 𝓛.H 𝓜 𝓡 wired)
     (λ κs. (payload_vals, tt)) (λ κs. (payload_Tells, tt)) (λ κs qs bounds a g₀ are.
     let d = a.0 in
     let vss : List Val × Unit {0} = (addr_val d.addr ∷ [], tt) in

@@ -9,26 +9,19 @@ use types.ByLocal.{alloc_all, pass_all, free_all, look_at, get, get_in, sets}
 use denote.Builtin.{usize}
 use denote.Plain.{uint_Makes}
 use denote.RattleType.{owns}
-use denote.Signature.{plain, types_at}
+use denote.Signature.{types_at}
 use denote.Steps.{nothing, owned}
-use denote.Triple.Walked.{says, Stays, walk_of, stay_dropped, ends_at}
-use Rattle.core.proofs.alloc.Calls.{Goes-blank}
+use denote.Triple.Walked.{says, walk_of, ends_at}
 use Rattle.std.proofs.raw_atomic.Walks.{proved}
-use Rattle.rlsf_heap.proofs.ThinValues.{addr_val, addr_told, addr_typed, payload_Tells, payload_vals}
-use Rattle.rlsf_heap.specs.contracts.thin.ThinPayload as raw_payload
+use Rattle.rlsf_heap.proofs.ThinValues.{addr_val, addr_told, addr_typed, payload_Tells, payload_vals, dropped, all_go}
 use Rattle.rlsf_heap.specs.contracts.thin.ThinPayload.into_raw as f
 use Rattle.rlsf_heap.proofs.thin.ThinPayload.into_raw.Statement.{statement}
 use Rattle.rlsf_heap.proofs.thin.ThinPayload.into_raw.Code as code
 
-abbrev stayed : Stays f.ended.signature.params f.ended.kept
-stayed = (stay_dropped (plain (λ _. raw_payload.the_row)) f.ended.kept.0, tt)
-
 pub into_raw_spec : {M : Type 1} → statement M
 into_raw_spec 𝓤 𝓛 𝓜 𝓡 wired =
-    let c = f.clauses 𝓛 𝓜.mem 𝓡.returns in let W = walk_of 𝓛 f.ended stayed c in
-    proved 𝓛 f.ended stayed c 𝓜 𝓡
-    (Goes-blank 𝓛 0 (plain (λ _. raw_payload.the_row)) f.ended.kept.0 (λ κs x w. tt), tt)
-    f.Key.name code.function (code.unfolded 𝓤 𝓛.H 𝓜 𝓡 wired)
+    let stayed = dropped f.ended.signature.params f.ended.kept in let c = f.clauses 𝓛 𝓜.mem 𝓡.returns in let W = walk_of 𝓛 f.ended stayed c in
+    proved 𝓛 f.ended stayed c 𝓜 𝓡 (all_go 𝓛 0 f.ended.signature.params f.ended.kept ((λ κs x w. tt), tt)) f.Key.name code.function (code.unfolded 𝓤 𝓛.H 𝓜 𝓡 wired)
     (λ κs. (payload_vals, tt)) (λ κs. (payload_Tells, tt)) (λ κs qs bounds a g are.
     let d = a.0 in
     let vss : List Val × Unit {0} = (addr_val d.addr ∷ [], tt) in

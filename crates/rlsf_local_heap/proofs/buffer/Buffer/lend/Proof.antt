@@ -34,10 +34,8 @@ use Rattle.rlsf_base.proofs.RawBlock.Values.{two_val, two_of}
 use Rattle.rlsf_heap.specs.Heap.{Identity}
 use Rattle.rlsf_heap.specs.Units.{payload_len}
 use Rattle.rlsf_local_heap.specs.Ownership.{block_beside}
-use Rattle.rlsf_local_heap.proofs.Stretched.{array_len, block_size, block_type, lengthens, shortened}
-use Rattle.rlsf_local_heap.proofs.Taken.{whole as in_units}
-use Rattle.rlsf_local_heap.proofs.Values.{list_val, list_own, list_told, list_made}
-use Rattle.rlsf_local_heap.proofs.Walks.{dropped, all_go}
+use Rattle.rlsf_local_heap.proofs.SmallerUnits.{array_len, block_size, block_type, lengthens, shortened, whole as in_units, list_val, list_own, list_told, list_made}
+use Rattle.rlsf_heap.proofs.ThinValues.{dropped, all_go}
 use Rattle.rlsf_local_heap.specs.contracts.buffer.Seats as seats
 use Rattle.rlsf_local_heap.specs.contracts.buffer.Buffer.lend.{ended, clauses}
 use Rattle.rlsf_local_heap.specs.contracts.buffer.Buffer.lend.Key.{name as #self}

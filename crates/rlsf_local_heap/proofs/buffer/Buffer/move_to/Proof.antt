@@ -43,11 +43,9 @@ use Rattle.rlsf_base.proofs.RawBlock.Walks.{then_runs, out_of_block}
 use Rattle.rlsf_heap.specs.Heap.{Identity}
 use Rattle.rlsf_heap.specs.Units.{IsCompleteOf, identity_of, payload_len}
 use Rattle.rlsf_local_heap.specs.Ownership.{block_beside, block_token}
-use Rattle.rlsf_local_heap.proofs.SmallerUnits.{handed, returned}
-use Rattle.rlsf_local_heap.proofs.Stretched.{array_len, block_size, block_type, emptied, parted}
-use Rattle.rlsf_local_heap.proofs.Taken.{holds, whole as in_units}
-use Rattle.rlsf_local_heap.proofs.Values.{list_val, list_own, list_told, list_made}
-use Rattle.rlsf_local_heap.proofs.Walks.{dropped, all_go}
+use Rattle.rlsf_local_heap.proofs.SmallerUnits.{handed, returned, array_len, block_size, block_type, emptied, parted, holds, whole as in_units, list_val, list_own, list_told}
+use Rattle.rlsf_local_heap.proofs.SmallerUnits.{list_made}
+use Rattle.rlsf_heap.proofs.ThinValues.{dropped, all_go}
 use Rattle.rlsf_local_heap.specs.contracts.buffer.Buffer as buffer
 use Rattle.rlsf_local_heap.specs.contracts.buffer.Buffer.move_to.{ended, clauses}
 use Rattle.rlsf_local_heap.specs.contracts.buffer.Buffer.move_to.Key.{name as #self}

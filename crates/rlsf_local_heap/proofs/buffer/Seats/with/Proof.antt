@@ -31,9 +31,8 @@ use Rattle.rlsf_base.proofs.RawBlock.PointerValues.{spot_val, spot_told}
 use Rattle.rlsf_heap.specs.Heap.{Identity}
 use Rattle.rlsf_heap.specs.Units.{identity_of, payload_len}
 use Rattle.rlsf_local_heap.specs.Ownership.{block_beside}
-use Rattle.rlsf_local_heap.proofs.Stretched.{array_len, block_size, block_type, stretched}
-use Rattle.rlsf_local_heap.proofs.Values.{list_val, list_own, list_told, list_made}
-use Rattle.rlsf_local_heap.proofs.Walks.{dropped, all_go}
+use Rattle.rlsf_local_heap.proofs.SmallerUnits.{array_len, block_size, block_type, stretched, list_val, list_own, list_told, list_made}
+use Rattle.rlsf_heap.proofs.ThinValues.{dropped, all_go}
 use Rattle.rlsf_local_heap.specs.contracts.buffer.Buffer as buffer
 use Rattle.rlsf_local_heap.specs.contracts.buffer.Seats.with.{ended, clauses}
 use Rattle.rlsf_local_heap.specs.contracts.buffer.Seats.with.Key.{name as #self}

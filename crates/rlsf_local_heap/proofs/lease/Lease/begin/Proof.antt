@@ -45,7 +45,7 @@ use Rattle.rlsf_base.proofs.memory.unit_payload.UnitPayload.TheLaws.{lowers as p
 use Rattle.rlsf_base.specs.contracts.memory.open_memory.OpenMemory.from_raw_parts as g
 use Rattle.rlsf_base.proofs.memory.open_memory.OpenMemory.from_raw_parts.Met.{met as made_met}
 use Rattle.rlsf_local_heap.specs.contracts.lease.Lease as lease_type
-use Rattle.rlsf_local_heap.proofs.LeasedRooms.{units-lent}
+use Rattle.rlsf_local_heap.proofs.SmallerUnits.{units-lent}
 use Rattle.rlsf_local_heap.specs.contracts.lease.Lease.begin as f
 use Rattle.rlsf_local_heap.proofs.lease.Lease.begin.Statement.{statement}
 use Rattle.rlsf_local_heap.proofs.lease.Lease.begin.Code as code

@@ -5,22 +5,20 @@ use base.Logic.{never, id⊢, emp}
 use base.Fml.{Fml, ftrue, froom}
 use contract.Monad.{fact, fact_i}
 use contract.Running.{tables}
-use types.Kit.{‵, raw, ◌⊛◌, some, later, ◌$◌, ◌∵◌, !, qed, move, keep, drop, use0, use1, use2, split, join, fsplit, fjoin, feq_l, pick, await, rewrite, suffices}
-use types.Kit.{done}
+use types.Kit.{‵, raw, ◌⊛◌, some, later, ◌$◌, ◌∵◌, !, qed, move, keep, drop, use0, use1, use2, split, join, fsplit, fjoin, feq_l, pick, await, rewrite, suffices, done}
 use types.Part.{whole, sub, agg}
 use types.Run.{stop, fld, of_opd, no_more, and_then, returns, enter}
 use types.ByLocal.{alloc_all, pass_all, free_all, look_at, get, get_in, sets, lands_as}
 use denote.Laws.{Is, shows}
 use denote.RattleType.{owns}
 use denote.RawPtr.{Ptr, RawPtr, in_a_block, room_for, ◌+ₚ◌}
-use denote.Signature.{plain, types_at}
+use denote.Signature.{types_at}
 use denote.Steps.{nothing, heard, peeks, only}
 use denote.Triple.Call.{calls_at}
 use denote.Triple.Clauses.{lasts}
 use denote.Triple.Spec.{triple_of}
 use denote.Triple.Table.{framed}
-use denote.Triple.Walked.{Stays, walk_of, stay_dropped, says, ends_at}
-use Rattle.core.proofs.alloc.Calls.{Goes-blank}
+use denote.Triple.Walked.{walk_of, says, ends_at}
 use Rattle.std.proofs.raw_atomic.Walks.{proved}
 use Rattle.rlsf_base.specs.Changes.{IsOwn}
 use Rattle.rlsf_base.specs.RawParts.{LiesAtBlock}
@@ -34,23 +32,17 @@ use Rattle.rlsf_base.proofs.memory.block.RawParts.TheLaws as parts_laws
 use Rattle.rlsf_base.proofs.memory.block.RawParts.TheLaws.{lowers as parts_lowers}
 use Rattle.rlsf_base.specs.contracts.memory.block.RawParts.release_room as g
 use Rattle.rlsf_base.proofs.memory.block.RawParts.release_room.Met.{met as release_met}
-use Rattle.rlsf_local_heap.specs.contracts.lease.Lease as lease_type
 use Rattle.rlsf_local_heap.proofs.lease.Lease.TheLaws.{lowers as lease_lowers}
-use Rattle.rlsf_local_heap.proofs.LeasedRooms.{units-returned}
+use Rattle.rlsf_heap.proofs.ThinValues.{dropped, all_go}
+use Rattle.rlsf_local_heap.proofs.SmallerUnits.{units-returned}
 use Rattle.rlsf_local_heap.specs.contracts.lease.Lease.into_payload as f
 use Rattle.rlsf_local_heap.proofs.lease.Lease.into_payload.Statement.{statement}
 use Rattle.rlsf_local_heap.proofs.lease.Lease.into_payload.Code as code
 
-abbrev stayed : Stays f.ended.signature.params f.ended.kept
-stayed = (stay_dropped (plain (λ _. lease_type.the_row)) f.ended.kept.0, (stay_dropped (plain (λ _. parts_type.the_row)) f.ended.kept.1.0, tt))
-
 pub into_payload_spec : {M : Type 1} → statement M
 into_payload_spec 𝓤 𝓛 𝓜 𝓡 wired =
-    let c = f.clauses 𝓛 𝓜.mem 𝓡.returns in let W = walk_of 𝓛 f.ended stayed c in
-    proved 𝓛 f.ended stayed c 𝓜 𝓡 (
-      Goes-blank 𝓛 0 (plain (λ _. lease_type.the_row)) f.ended.kept.0 (λ κs x w. tt),
-      (Goes-blank 𝓛 0 (plain (λ _. parts_type.the_row)) f.ended.kept.1.0 (λ κs x w. tt), tt),
-    )
+    let stayed = dropped f.ended.signature.params f.ended.kept in let c = f.clauses 𝓛 𝓜.mem 𝓡.returns in let W = walk_of 𝓛 f.ended stayed c in
+    proved 𝓛 f.ended stayed c 𝓜 𝓡 (all_go 𝓛 0 f.ended.signature.params f.ended.kept ((λ κs x w. tt), ((λ κs x w. tt), tt)))
     f.Key.name code.function (code.unfolded 𝓤 𝓛.H 𝓜 𝓡 wired)
     (λ κs. ((λ d. spot_val d.ptr d.len ∷ []), ((λ r. parts_lowers.lowered r ∷ []), tt))) (λ κs. (lease_lowers.val_is, (parts_lowers.val_is, tt)))
     (λ κs qs bounds a none are.

@@ -35,8 +35,8 @@ use Rattle.rlsf_local_heap.specs.Ownership.{block_token}
 use Rattle.rlsf_local_heap.specs.contracts.local.LocalHeap.take as callee
 use Rattle.rlsf_local_heap.specs.contracts.local.LocalHeap.take.Key as take_key
 use Rattle.rlsf_local_heap.proofs.local.LocalHeap.take.Met.{met as takes}
-use Rattle.rlsf_local_heap.proofs.Taken.{Taken, Told, taken, hands_out}
-use Rattle.rlsf_local_heap.proofs.Walks.{dropped, all_go}
+use Rattle.rlsf_local_heap.proofs.SmallerUnits.{Taken, Told, taken, hands_out}
+use Rattle.rlsf_heap.proofs.ThinValues.{dropped, all_go}
 use Rattle.rlsf_local_heap.specs.contracts.local.LocalHeapAllocator.allocate.{ended, clauses}
 use Rattle.rlsf_local_heap.specs.contracts.local.LocalHeapAllocator.allocate.Key.{name as #self}
 use Rattle.rlsf_local_heap.proofs.local.LocalHeapAllocator.allocate.Statement.{statement}

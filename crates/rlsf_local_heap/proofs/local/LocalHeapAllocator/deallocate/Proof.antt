@@ -38,11 +38,10 @@ use Rattle.rlsf_heap.specs.Units.{IsCompleteOf, payload_len}
 use Rattle.rlsf_local_heap.specs.contracts.local.payload_len as sizer
 use Rattle.rlsf_local_heap.proofs.local.payload_len.Met.{met as sizes}
 use Rattle.rlsf_local_heap.specs.Ownership.{block_beside, block_token}
-use Rattle.rlsf_local_heap.proofs.SmallerUnits.{returned}
-use Rattle.rlsf_local_heap.proofs.Taken.{holds, whole}
+use Rattle.rlsf_local_heap.proofs.SmallerUnits.{returned, holds, whole}
 use Rattle.rlsf_local_heap.specs.contracts.local.LocalHeap.give as callee
 use Rattle.rlsf_local_heap.proofs.local.LocalHeap.give.Met.{met as gives}
-use Rattle.rlsf_local_heap.proofs.Walks.{dropped, all_go}
+use Rattle.rlsf_heap.proofs.ThinValues.{dropped, all_go}
 use Rattle.rlsf_local_heap.specs.contracts.local.LocalHeapAllocator.deallocate.{ended, clauses}
 use Rattle.rlsf_local_heap.specs.contracts.local.LocalHeapAllocator.deallocate.Key.{name as #self}
 use Rattle.rlsf_local_heap.proofs.local.LocalHeapAllocator.deallocate.Statement.{statement}

@@ -23,7 +23,7 @@ use Rattle.core.proofs.cell.Inside.{round}
 use Rattle.std_alloc.proofs.ResultValues.{and_tt}
 use Rattle.std.proofs.raw_atomic.Walks.{proved_at, leaves}
 use Rattle.rlsf_local_heap.proofs.SlotContents.{Over, contents_out}
-use Rattle.rlsf_local_heap.proofs.Walks.{dropped, all_go}
+use Rattle.rlsf_heap.proofs.ThinValues.{dropped, all_go}
 use Rattle.rlsf_local_heap.specs.contracts.slot.Slot.into_inner.{ended, clauses}
 use Rattle.rlsf_local_heap.specs.contracts.slot.Slot.into_inner.Key.{name as #self}
 use Rattle.rlsf_local_heap.proofs.slot.Slot.into_inner.Statement.{statement}

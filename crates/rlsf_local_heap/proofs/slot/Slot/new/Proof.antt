@@ -28,7 +28,7 @@ use Rattle.std_alloc.proofs.ResultValues.{and_tt}
 use Rattle.std.proofs.raw_atomic.Walks.{proved_at, leaves}
 use Rattle.rlsf_local_heap.specs.Constants.{Constants}
 use Rattle.rlsf_local_heap.proofs.SlotContents.{Value, Held, Fields, contents_in}
-use Rattle.rlsf_local_heap.proofs.Walks.{dropped, all_go}
+use Rattle.rlsf_heap.proofs.ThinValues.{dropped, all_go}
 use Rattle.rlsf_local_heap.specs.contracts.slot.Slot.new.{ended, clauses}
 use Rattle.rlsf_local_heap.specs.contracts.slot.Slot.new.Key.{name as #self}
 use Rattle.rlsf_local_heap.proofs.slot.Slot.new.Statement.{statement}

@@ -22,8 +22,8 @@ use Rattle.core.proofs.alloc.Shapes.{after}
 use Rattle.core.proofs.cell.Inside.{one}
 use Rattle.std.proofs.raw_atomic.Walks.{leaves}
 use Rattle.rlsf_local_heap.specs.Constants.{Constants}
-use Rattle.rlsf_local_heap.proofs.Walks.{dropped, all_go, with_token, proved_with_token}
-use Rattle.rlsf_local_heap.proofs.SlotContents.{Held, Over, ends, held_Lawful, quiet, opens_slot, shuts_slot}
+use Rattle.rlsf_heap.proofs.ThinValues.{dropped, all_go}
+use Rattle.rlsf_local_heap.proofs.SlotContents.{with_token, proved_with_token, Held, Over, ends, held_Lawful, quiet, opens_slot, shuts_slot}
 use Rattle.rlsf_local_heap.specs.contracts.slot.Slot.replace.{ended, clauses}
 use Rattle.rlsf_local_heap.specs.contracts.slot.Slot.replace.Key.{name as #self}
 use Rattle.rlsf_local_heap.proofs.slot.Slot.replace.Statement.{statement}
@@ -33,7 +33,6 @@ use Rattle.rlsf_local_heap.proofs.slot.Slot.replace.Code.{code}
 pub replace_spec : {M : Type 1} → statement M
 unfolding code
 replace_spec 𝓤 𝓛 𝓜 𝓡 wired T L g d met =
-    let H = 𝓛.H in
     let args : Args = bounded (a_type ∷ []) (T, tt) (dcons d dnil) in
     let En₀ = ended T g d in
     let c₀ = clauses T g d 𝓛 𝓜.mem 𝓡.returns in
@@ -60,7 +59,7 @@ replace_spec 𝓤 𝓛 𝓜 𝓡 wired T L g d met =
     heard ! (Over T g r new)
     (λ asked. move ! (2 ∷ []) $ split ! $ split ! $ move ! (2 ∷ []) $ fsplit3 ! $ fsplit ! $ rewrite ! 2 (λ (us : List Val). ‵ ((Held T).own_val new us)) got.1 refl $
     keep ! (1 ∷ 4 ∷ 6 ∷ 2 ∷ 5 ∷ []) $
-    regoal ! (λ (us : List Val). prop (WpFn 𝓤 H C Λ fn us Post)) (λ i. are.0.0 i ++ (got.1 i ++ [])) refl $
+    regoal ! (λ (us : List Val). prop (WpFn 𝓤 𝓛.H C Λ fn us Post)) (λ i. are.0.0 i ++ (got.1 i ++ [])) refl $
     enter ! C Λ fn (vptr b o ∷ w ∷ []) Post $
     alloc_all ! (λ l. pass_all ! refl ((tt, tt), (good, tt)) $ let En : Env 𝓤 𝓛.H = env fn.locals l in
     opens_slot T L g r b o ! tt (λ x v over typed.

@@ -3,8 +3,8 @@ use Rattle.rlsf_model.specs.Allocate.{Allocates}
 use Rattle.rlsf_model.specs.Callers.{align_at}
 use Rattle.rlsf_base.specs.Range.{range_at}
 use Rattle.rlsf_heap.specs.Heap.{Steps}
-use Rattle.rlsf_heap.proofs.Frames.{frame_same}
-use Rattle.rlsf_heap.proofs.Allocated.{if_none, if_some}
+use Rattle.rlsf_heap.proofs.Kept.{frame_same}
+use Rattle.rlsf_heap.proofs.OnCores.{if_none, if_some}
 use Rattle.rlsf_local_heap.specs.Constants.{chunks_of_range}
 use Rattle.rlsf_local_heap.proofs.Outcomes.{at_address, both, made_of, not_made, others_stay}
 use Rattle.rlsf_local_heap.proofs.tenant.Tenant.new.Goals as goal

@@ -4,8 +4,7 @@ use denote.Memory.{part_of}
 use denote.RattleType.{RattleType}
 use denote.Param.Laws.{Laws}
 use Rattle.rlsf_shared_heap.specs.declared.shared.held.Identified as identified
-use Rattle.rlsf_shared_heap.proofs.LockLives.{lives_as}
-use Rattle.rlsf_shared_heap.proofs.LockRows.{row_laws}
+use Rattle.rlsf_shared_heap.proofs.LockRows.{lives_as, row_laws}
 use Rattle.rlsf_shared_heap.proofs.shared.lock.Lock.TheLaw.Statement.{statement}
 
 pub shares : (T : RattleType) (g : identified.Ghosts T.Denot) (L : Laws T) → statement T g L

@@ -9,7 +9,6 @@ pub returns : goal.returns
 unfolding Serves
 returns g c =
     let between = c.self.inside.heap in
-    let after = c.allocate.new.self in
     let collected = rw (← c.self.view_is) at c.collect.ensures.collected in
     let lent = rw (← c.self.view_is) at c.collect.ensures.lent in
     let room = rw (← c.self.view_is) at c.collect.ensures.room in
@@ -18,7 +17,7 @@ returns g c =
     record {
       step = (between, c.collect.result, few, lent, collected, did.step);
       alone = λ none. subst
-          (λ (h : HeapView). Steps g.row.FLLEN g.row.SLLEN after
+          (λ (h : HeapView). Steps g.row.FLLEN g.row.SLLEN c.allocate.new.self
           (Allocates g.row.SLLEN h.state c.args.layout.size c.args.layout.align (addr_of c.allocate.result)))
           (unchanged g.row.FLLEN g.row.SLLEN c.args.self.now.heap between c.collect.result (omega (arith, none, lent)) collected) did.step;
       result = served _ _ _ _ _ _ _ _ collected c.allocate.result did.result;

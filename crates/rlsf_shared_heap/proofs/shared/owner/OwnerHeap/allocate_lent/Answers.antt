@@ -6,13 +6,12 @@ use Rattle.rlsf_shared_heap.proofs.shared.owner.OwnerHeap.allocate_lent.Goals as
 pub returns : goal.returns
 unfolding ServesLent
 returns g c =
-    let between = c.collect.new.self in
     let did = c.collect.ensures in
     let was = did.collected in
     let made = c.lend_new.ensures in
     let zeroed = served_zeros _ _ _ _ _ _ _ _ was c.lend_new.result made.result in
     record {
-      step = (between, c.collect.result, did.few, did.lent, did.room, was, made.new);
+      step = (c.collect.new.self, c.collect.result, did.few, did.lent, did.room, was, made.new);
       result = zeroed.0;
       zeros = zeroed.1;
       room = λ count most wide sized lives short low less.
