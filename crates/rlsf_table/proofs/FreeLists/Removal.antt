@@ -102,9 +102,8 @@ module _ (m n : Space) (newest block next previous : ℕ) (r : Range) (before af
   nexts-kept : (f : Range) → IsIn f (before ++ (r ∷ after)) → f.start ≢ previous → word_at n (f.start + 16) ≡ word_at m (f.start + 16)
   nexts-kept f i other =
       let here = list.placed f i in
-      let one = cuts.back.rewrites in
-      cuts.forth.rewrites.words (f.start + 16) (omega (arith, here.whole)) (omega (arith, here.lies_in, one.start)) (λ h. other (omega (arith, h.1)))
-      ∙ one.words (f.start + 16) (omega (arith, here.whole)) (omega (arith, here.lies_in)) (λ h. omega (arith, h.1, here.whole, next-whole))
+      cuts.forth.rewrites.words (f.start + 16) (omega (arith, here.whole)) (omega (arith, here.lies_in, cuts.back.rewrites.start)) (λ h. other (omega (arith, h.1)))
+      ∙ cuts.back.rewrites.words (f.start + 16) (omega (arith, here.whole)) (omega (arith, here.lies_in)) (λ h. omega (arith, h.1, here.whole, next-whole))
 
   backs-kept : (f : Range) → IsIn f (before ++ (r ∷ after)) → f.start ≢ next → word_at n (f.start + 24) ≡ word_at m (f.start + 24)
   backs-kept f i other =
