@@ -17,9 +17,7 @@ module _ (m n : Space) (start : n.start ≡ m.start) (bytes : n.bytes ≡ m.byte
   word_at-loaded a word is = is ∙ sym (word_at-counted m n start bytes out a)
 
   pub IsMarked-loaded : {free : List Range} {a : ℕ} → IsMarked m free a → IsMarked n free a
-  IsMarked-loaded {a = a} marked =
-      let same = ap (λ w. w % 2) (word_at-counted m n start bytes out a) in
-      record { word = IsReadable-loaded marked.word; mark = (λ even. marked.mark.0 (sym same ∙ even), λ begins. same ∙ marked.mark.1 begins) }
+  IsMarked-loaded {a = a} marked = grind (arith, word_at-counted, IsReadable-loaded) steps 200000
 
   -- a block was taken out after that
   pub IsNextOut-loaded : {fllen sllen : ℕ} {o : Space} {t : Table} {free : List Range} {a len : ℕ} → IsNextOut fllen sllen n o t free a len
