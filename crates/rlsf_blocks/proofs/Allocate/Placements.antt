@@ -34,7 +34,7 @@ use Rattle.rlsf_model.proofs.Allocations.{IsWellFormed-given, placed-fits}
 use Rattle.rlsf_model.proofs.Changes.{IsIn-rest_behind}
 use Rattle.rlsf_model.proofs.Choices.{choice-some}
 use Rattle.rlsf_model.proofs.Coverage.{IsIn-append, IsIn-without}
-use Rattle.rlsf_model.proofs.Payloads.{block_length-le, block_length-whole, payload_of-after, payload_of-aligned}
+use Rattle.rlsf_model.proofs.Payloads.{block_length-whole, payload_of-after, payload_of-aligned}
 use Rattle.rlsf_model.proofs.RangeLengths.{wide_whole}
 use Rattle.rlsf_blocks.proofs.Allocate.TakenOut.{left_apart}
 
@@ -214,7 +214,7 @@ module _ {fllen sllen : ℕ} {m : Space} {table : Table} {s : State} (v : Stands
         let same : range_of n ≡ range_of m = ap₂ (λ a l. range_at a l) rewrites.start rewrites.length in
         let t_well_formed = subst (λ p. IsWellFormed fllen sllen p (given sllen s f u)) (sym same) well_formed in (
           given sllen s f u,
-          (grind arith steps 200000),
+          (grind arith),
           StandsFor-refilled v f free.whole free.some home refilled t_well_formed,
           KeepsSpare-refilled v f free.whole free.some home refilled,
         )

@@ -24,7 +24,7 @@ use Rattle.rlsf_model.proofs.Tiling.{IsValidClass-le}
 
 -- a part of a range has no address that the range doesn't have
 pub covers-part : (r f : Range) (a : ℕ) → f.start ≤ r.start → end_of r ≤ end_of f → covers r a ≤ covers f a
-covers-part r f a from to = grind (arith, where_is, inside, covers-inside, before, behind) steps 200000
+covers-part r f a from to = grind (arith, where_is, inside, covers-inside, before, behind)
 
 -- room for a block stays room for one where no start and no link of the other free blocks was written
 pub IsInnerRoom-Rewrites : {fllen sllen : ℕ} {m n : Space} {t : Table} {free : List Range} {r : Range} {at : ℕ → Type 0} → Rewrites m n at

@@ -116,7 +116,7 @@ module _ {fllen sllen : ℕ} {m m1 m2 m3 m4 : Space} {table : Table} {s : State}
       }
 
   apart_body : (a : ℕ) → coverage itself (body c ∷ s.free) a ≤ 1
-  apart_body a = grind (arith, where_is, inside, before, free-le, tiling_of, behind) steps 200000
+  apart_body a = grind (arith, where_is, inside, before, free-le, tiling_of, behind)
 
   -- the new block has room beside them
   pub IsRoom-body : IsRoom fllen sllen m4 table s.free (body c)

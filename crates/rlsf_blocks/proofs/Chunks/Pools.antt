@@ -97,7 +97,7 @@ module _ {fllen sllen : ℕ} {m0 : Space} {table0 : Table} {s : State} (v : Stan
 
     -- which is the memory's own, where the range was
     pub IsOwned-next : IsOwned m0 r → IsOwned m (range_at start (first_length (max_pool_size fllen) left))
-    IsOwned-next owned a low high = grind (arith, first_length-le, round32-le) steps 200000
+    IsOwned-next owned a low high = grind (arith, first_length-le, round32-le)
 
     pub IsNewChunk-next : IsOwned m0 r → IsNewChunk fllen sllen m filled.now (range_at start (first_length (max_pool_size fllen) left))
     IsNewChunk-next owned =
@@ -187,4 +187,4 @@ module _ {fllen sllen : ℕ} {m0 : Space} {table0 : Table} {s : State} (v : Stan
 
   -- a range with no aligned byte is no chunk
   pub nothing_inserted : (aligned_part r).len ≡ 0 → (t : State) × Inserts fllen s r None t × StandsFor fllen sllen (contents m0 table0) t × KeepsSpare m0 s m0 t
-  nothing_inserted none = grind (arith, chunks_are_cut_off_the_front) steps 200000
+  nothing_inserted none = grind (arith, chunks_are_cut_off_the_front)

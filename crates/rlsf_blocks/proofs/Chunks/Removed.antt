@@ -14,7 +14,7 @@ use Rattle.rlsf_blocks.specs.StandsFor.{contents, StandsFor}
 use Rattle.rlsf_blocks.specs.Steps.Join.{IsMarked, IsNextOut}
 use Rattle.rlsf_blocks.specs.Steps.Touched.{at_link}
 use Rattle.rlsf_model.specs.Insert.{body}
-use Rattle.rlsf_model.specs.Join.{starts_at, end_or}
+use Rattle.rlsf_model.specs.Join.{starts_at}
 use Rattle.rlsf_model.specs.Lists.{IsIn, without}
 use Rattle.rlsf_model.specs.Remove.{lies_within, outside_of, removed, IsIdle, IsRemovable, IsWithinOrOff}
 use Rattle.rlsf_model.specs.State.{State}
@@ -80,7 +80,7 @@ module _ {fllen sllen : ℕ} {m : Space} {t : Table} {s : State} (v : StandsFor 
 
     -- where the chunk ends
     pub end_is : end_of c ≡ start + len + 32
-    end_is = grind (arith, w, found) steps 200000
+    end_is = grind (arith, w, found)
 
     -- no other free block lies in the chunk
     others : (before after : List Range) → s.free ≡ before ++ (body c ∷ after) → (f : Range) → IsIn f (before ++ after) → lies_within c f ≡ false

@@ -52,10 +52,10 @@ module _ {fllen sllen : ℕ} {m0 : Space} {t0 : Table} {s : State} (v : StandsFo
   ]
 
   pub IsIdle-span : (r : Range) (start end : ℕ) → IsSpan r start end → IsIdle s r → IsIdle s (between start end)
-  IsIdle-span r start end span idle a from to = grind (arith, cases_lt) steps 200000
+  IsIdle-span r start end span idle a from to = grind (arith, cases_lt)
 
   pub removed-span : (r : Range) (start end : ℕ) → IsSpan r start end → removed (between start end) s ≡ removed r s
-  removed-span r start end span = grind (arith, cases_lt, removed-empty) steps 200000
+  removed-span r start end span = grind (arith, cases_lt, removed-empty)
 
   module _ (q : Range) (row : IsRow s q) (idle : IsIdle s q) where
     -- at the beginning all chunks are there
@@ -110,7 +110,7 @@ module _ {fllen sllen : ℕ} {m0 : Space} {t0 : Table} {s : State} (v : StandsFo
       past = next_chunk.4
 
       still_there : IsIn chunk (outside_of (between q.start start) s.chunks)
-      still_there = grind (arith, IsIn-outside_from, chunk, is_chunk, past) steps 200000
+      still_there = grind (arith, IsIn-outside_from, chunk, is_chunk, past)
 
       pub IsIdleChunk-next : IsIdleChunk (removed (between q.start start) s) chunk start
       IsIdleChunk-next = record { is_chunk = still_there; begins = begins; idle = λ a low high. idle a (omega (arith, low, begins, is.from)) (omega (arith, high, ends)) }

@@ -59,11 +59,11 @@ module _ {fllen sllen : ℕ} {ps : List ℕ} {m : Space} {t : Table} {r : Range}
     module _ {a : ℕ} (is : IsInChunk s c a) where
       -- where the word is a sentinel's, the chunk ends behind it
       pub ends_there : word_at m a ≡ 35 → a + 32 ≡ end_of c
-      ends_there sentinel = grind (arith, block_behind, block_word, end_behind) steps 200000
+      ends_there sentinel = grind (arith, block_behind, block_word, end_behind)
 
       -- where it is another one, a block begins
       block_there : word_at m a ≢ 35 → BlockBegins s a
-      block_there other = grind (arith, block_behind, end_behind) steps 200000
+      block_there other = grind (arith, block_behind, end_behind)
 
       -- and behind it the check goes on
       pub goes_on : (end : ℕ) → end_of c ≤ end → word_at m a ≢ 35 → (stop : ℕ) × IsBlockTo fllen sllen ps m t a end stop × IsInChunk s c stop

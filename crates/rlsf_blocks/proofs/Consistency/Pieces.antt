@@ -144,7 +144,7 @@ module _ {fllen sllen : ℕ} {ps : List ℕ} {m : Space} {t : Table} where
 -- chunks of a state that lie outside of a range have none of its bytes
 none_outside : (range : Range → Range) (cs : List Range) (low high a : ℕ) → ((c : Range) → IsIn c cs → (low ≤ (range c).start) × (end_of (range c) ≤ high))
     → (a < low → coverage range cs a ≡ 0) × (high ≤ a → coverage range cs a ≡ 0)
-none_outside range cs low high a inside = grind (arith, coverage-none, covers-before, covers-behind) steps 200000
+none_outside range cs low high a inside = grind (arith, coverage-none, covers-before, covers-behind)
 
 -- what holds wherever a check is
 pub record IsBase (fllen sllen : ℕ) (m : Space) : Type 0 where
@@ -164,7 +164,7 @@ module _ {fllen sllen : ℕ} {ps : List ℕ} {m : Space} {t : Table} (g : IsBase
   pub SomeChunks-none : (start : ℕ) → SomeChunks fllen sllen ps m t start start
   SomeChunks-none start = (
     empty,
-    (grind (arith, IsWellFormed-from) steps 200000),
+    (grind (arith, IsWellFormed-from)),
   )
 
   -- the blocks of a chunk and its sentinel
@@ -173,7 +173,7 @@ module _ {fllen sllen : ℕ} {ps : List ℕ} {m : Space} {t : Table} (g : IsBase
       → word_at m (start + 8) ≡ 0 → word_at m stop ≡ 35 → SomePart fllen sllen ps m t start stop → SomeChunks fllen sllen ps m t start (stop + 32)
   SomeChunks-one start stop from to whole whole_stop some valid first sentinel (us, fs, p) =
       let c = between start (stop + 32) in
-      let is_chunk : IsChunk fllen sllen (range_of m) c = (grind arith steps 200000) in (
+      let is_chunk : IsChunk fllen sllen (range_of m) c = (grind arith) in (
         record { chunks = c ∷ []; used = us; free = fs },
         (
           record {

@@ -91,10 +91,10 @@ module _ {fllen sllen : ℕ} (ps : List ℕ) {m : Space} {t : Table} {s : State}
         has_head m 0 (of_class sllen fl sl s.free) (head_at t fl sl) (v.table.lists.links fl sl row place) some_in f (IsIn-of_class_from sllen fl sl f s.free i has)
 
     block_from : head_at t fl sl ≢ 0 → (f : Range) × IsIn f s.free × (class_of sllen f.len ≡ class_at fl sl)
-    block_from some = grind (arith, head_of, of) steps 200000
+    block_from some = grind (arith, head_of, of)
 
     agrees_at : AgreesAt fllen sllen ps m t fl sl
-    agrees_at = grind (arith, list_any-some, head_from, block_from, list_any-true, has_class-from, first_of_list) steps 200000
+    agrees_at = grind (arith, list_any-some, head_from, block_from, list_any-true, has_class-from, first_of_list)
 
   has_heads : HasHeads fllen sllen ps m t
   has_heads fl row = record {

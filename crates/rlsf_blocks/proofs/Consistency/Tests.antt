@@ -1,5 +1,5 @@
 -- Tests of what a loop has passed.
-use Rattle.std.proofs.Common.{◌≡◌, ◌↔◌, ℕ, ◌+◌, ◌<◌, Bool, true, false, true≢false, arith, refl, sym, ◌∙◌, inl, inr, subst}
+use Rattle.std.proofs.Common.{◌≡◌, ◌↔◌, ℕ, ◌+◌, ◌<◌, Bool, true, true≢false, arith}
 use Rattle.std.proofs.lemmas.Bool.{cases_lt}
 use mathlib.Core.Bool.{beq}
 
@@ -14,11 +14,11 @@ found_here P n after here set = (λ _. (n, omega arith, here), λ _. set)
 -- the next number doesn't
 pub found_not : (P : ℕ → Type 0) (n : ℕ) (before after : Bool) → (P n → ⊥) → after ≡ before → (before ≡ true) ↔ SomeBelow P n
     → (after ≡ true) ↔ SomeBelow P (n + 1)
-found_not P n before after none same found = grind (arith, cases_lt) steps 200000
+found_not P n before after none same found = grind (arith, cases_lt)
 
 -- two tests with equal results
 pub same_tests : (a b : Bool) → beq a b ≡ true → a ≡ b
-same_tests h1 h2 same = grind (arith, true≢false) steps 200000
+same_tests h1 h2 same = grind (arith, true≢false)
 
 pub tests_same : (a b : Bool) → (a ≡ true → b ≡ true) → (b ≡ true → a ≡ true) → beq a b ≡ true
-tests_same h1 h2 to from = grind (arith, true≢false) steps 200000
+tests_same h1 h2 to from = grind (arith, true≢false)

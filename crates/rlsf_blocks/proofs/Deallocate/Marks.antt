@@ -188,7 +188,7 @@ module _ {fllen sllen : ℕ} {m : Space} {t : Table} {s : State} (v : StandsFor 
     -- and was taken out, if it is free
     pub previous_out : {n : Space} {x : Table} {len start : ℕ} → previous ≢ 0 → IsNextOut fllen sllen m n x s.free previous len → start ≡ b - len
         → IsPreviousOut fllen sllen m n x s.free b start
-    previous_out {n} {x} some out from = grind (arith, length_before) steps 200000
+    previous_out {n} {x} some out from = grind (arith, length_before)
 
   -- ---- the block behind
 

@@ -67,7 +67,7 @@ module _ {fllen sllen : ℕ} {m : Space} {t : Table} {s : State} (v : StandsFor 
   pub behind_at : {m1 m2 : Space} {x : Table} {block end next : ℕ} → u.block.start ≡ block → end_of u.block ≡ end
       → IsNextOut fllen sllen m1 m2 x (without (ends_at block) s.free) end next
       → IsNextOut fllen sllen m1 m2 x (without (ends_at u.block.start) s.free) (end_of u.block) next
-  behind_at {m1} {m2} {x} {block} {end} {next} at is out = grind arith steps 200000
+  behind_at {m1} {m2} {x} {block} {end} {next} at is out = grind arith
 
   -- the free blocks before it and behind it were taken out
   module _ {m1 m2 : Space} {t1 t2 : Table} {start next : ℕ} (before : IsPreviousOut fllen sllen m m1 t1 s.free u.block.start start)

@@ -157,7 +157,7 @@ module _ {fllen sllen : ℕ} {m : Space} {table : Table} {s : State} (v : Stands
         ∙ reads_of writes.two
 
     stays : word_at n (sentinel_of c + 8) ≡ word_at m (sentinel_of c + 8)
-    stays = grind (arith, written, placed, some) steps 200000
+    stays = grind (arith, written, placed, some)
 
     -- ---- what lies outside the hole
 

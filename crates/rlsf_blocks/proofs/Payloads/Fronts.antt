@@ -43,7 +43,7 @@ module _ {fllen sllen : ℕ} {v : Contents} {s : State} (old : StandsFor fllen s
     full = length-take-le len u.bytes (omega (arith, (old.well_formed.used u source.0).bytes, enough))
 
     bytes_in-front : bytes_in m (range_at from len) ≡ front
-    bytes_in-front = grind (arith, take-take) steps 200000
+    bytes_in-front = grind (arith, take-take)
 
     spliced : n.bytes ≡ splice m.bytes (to - m.start) (to - m.start + len) front
     spliced = copied ∙ ap (with_bytes m to) bytes_in-front ∙ ap (λ k. splice m.bytes (to - m.start) (to - m.start + k) front) full

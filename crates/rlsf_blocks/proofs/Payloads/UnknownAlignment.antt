@@ -124,23 +124,23 @@ module _ {m : Space} {addr : ℕ} {u : Used} (is : IsPayloadOf m addr u) where
 
     -- a word that isn't 0 is the address of a size word
     pub IsReadable-named : word ≢ 0 → IsReadable m word
-    IsReadable-named some = grind (arith, said) steps 200000
+    IsReadable-named some = grind (arith, said)
 
     -- the end of the block there, with the flag of its size word, fits in a word
     pub fits_named : (size : ℕ) → word ≢ 0 → size ≡ word_at m word → word + size < 2 ^ 64
-    fits_named size some sized = grind (arith, said, sized) steps 200000
+    fits_named size some sized = grind (arith, said, sized)
 
     -- no block is named
     pub begins_first : word ≡ 0 → addr - 16 ≡ u.block.start
-    begins_first none = grind (arith, said) steps 200000
+    begins_first none = grind (arith, said)
 
     -- a block is named that ends before the payload
     pub begins_behind : (size : ℕ) → size ≡ word_at m word → word + size < addr → addr - 16 ≡ u.block.start
-    begins_behind size sized ends = grind (arith, said, sized) steps 200000
+    begins_behind size sized ends = grind (arith, said, sized)
 
     -- a block is named that has the payload
     pub begins_there : (size : ℕ) → word ≢ 0 → size ≡ word_at m word → addr ≤ word + size → word ≡ u.block.start
-    begins_there size some sized at_most = grind (arith, said) steps 200000
+    begins_there size some sized at_most = grind (arith, said)
 
   -- ---- the bytes from the payload to the block's end
 
@@ -154,7 +154,7 @@ module _ {m : Space} {addr : ℕ} {u : Used} (is : IsPayloadOf m addr u) where
 
     -- all bytes from the payload to the block's end, and no others
     pub usable-sized : (size : ℕ) → size ≡ word_at m block → (r : Range) → r.start ≡ addr → r.len ≡ block + (size - 1) - addr → r ≡ usable u
-    usable-sized size read r start len = grind (arith, sized) steps 200000
+    usable-sized size read r start len = grind (arith, sized)
 
   -- they lie in the memory
   pub LiesIn-usable : LiesIn (usable u) m.start (length m.bytes)

@@ -226,7 +226,7 @@ module _ {fllen sllen : ℕ} {m n : Space} {t : Table} {s : State} (old : Stands
       }
 
   well_formed : IsWellFormed fllen sllen (range_of m) now
-  well_formed = grind (arith, w, IsIn-map_from, IsUsed-with_bytes_of, coverage-with_bytes_of) steps 200000
+  well_formed = grind (arith, w, IsIn-map_from, IsUsed-with_bytes_of, coverage-with_bytes_of)
 
   pub stands_beside : StandsFor fllen sllen (contents n t) now
   stands_beside =

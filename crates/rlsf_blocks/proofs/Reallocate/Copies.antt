@@ -57,7 +57,7 @@ module _ {fllen sllen : ℕ} {m : Space} {t : Table} {free : List Range} (hole :
   }
     where
       word_side : (a : ℕ) → a % 8 ≡ 0 → (IsInside hole a → ⊥) → (a + 8 ≤ to) ⊎ (to + from.len ≤ a)
-      word_side a whole other = grind (arith, cases_lt, other) steps 200000
+      word_side a whole other = grind (arith, cases_lt, other)
 
       -- a range that none of the hole's words touches lies before the hole or behind it
       side : (r : Range) → 0 < r.len → ((a : ℕ) → IsInside hole a → (end_of r ≤ a) ⊎ (a + 8 ≤ r.start)) → (end_of r ≤ to) ⊎ (to + from.len ≤ r.start)

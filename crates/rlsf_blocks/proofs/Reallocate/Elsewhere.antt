@@ -126,7 +126,7 @@ module _ {fllen sllen : ℕ} {memory : Range} {m : Space} {table : Table} {s t :
     IsSameOutside-copied = record {
       start = start;
       length = length-with m n target u.bytes LiesIn-new long start spliced;
-      bytes = λ q from side. bytes_in-with m n target u.bytes LiesIn-new long start spliced q from ((grind (arith, shorter, payload_of-after) steps 200000));
+      bytes = λ q from side. bytes_in-with m n target u.bytes LiesIn-new long start spliced q from ((grind (arith, shorter, payload_of-after)));
       out = λ a inside side. out_at-copied m n (usable u) addr LiesIn-old LiesIn-new start copied_there out_there a inside (elim side [
         | inl before ↦ inl (omega (arith, before, places.answer))
         | inr behind ↦ inr (omega (arith, behind, places.answer, shorter, payload_of-after places.range.start align))

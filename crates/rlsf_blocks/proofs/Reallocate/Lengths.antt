@@ -1,5 +1,5 @@
 -- Where the free block ends that begins at an address, by the word there.
-use Rattle.std.proofs.Common.{◌≡◌, ℕ, ◌+◌, ◌%◌, List, find, arith, sym, ◌∙◌, ap}
+use Rattle.std.proofs.Common.{◌≡◌, ℕ, ◌+◌, ◌%◌, List, find, arith}
 use Rattle.rlsf_base.specs.declared.memory.range.Range.{Range}
 use Rattle.rlsf_base.specs.Space.{Space, word_at}
 use Rattle.rlsf_table.specs.FreeTable.{IsFreeTable}
@@ -13,8 +13,8 @@ module _ {fllen sllen : ℕ} {m : Space} {t : Table} {block : ℕ} {free : List 
     (marked : IsMarked m free block) {size : ℕ} (is : size ≡ word_at m block) where
   -- the word is the length of a free block
   pub end_free : size % 2 ≡ 0 → block + size ≡ end_or block (find (starts_at block) free)
-  end_free even = grind (arith, block_there, find-start) steps 200000
+  end_free even = grind (arith, block_there, find-start)
 
   -- no free block begins there
   pub end_used : size % 2 ≡ 1 → block + 0 ≡ end_or block (find (starts_at block) free)
-  end_used odd = grind (arith, find-no_start) steps 200000
+  end_used odd = grind (arith, find-no_start)

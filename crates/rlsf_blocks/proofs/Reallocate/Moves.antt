@@ -1,5 +1,5 @@
 -- A used block moved into the free block before it: the value represents the planned state.
-use Rattle.std.proofs.Common.{◌≡◌, ◌≢◌, ℕ, cond, leb, ◌+◌, ◌-◌, ◌%◌, ◌≤◌, ◌<◌, ◌⊎◌, List, ◌++◌, Some, None, find, true, length, take}
+use Rattle.std.proofs.Common.{◌≡◌, ◌≢◌, ℕ, leb, ◌+◌, ◌-◌, ◌%◌, ◌≤◌, ◌<◌, ◌⊎◌, List, ◌++◌, Some, None, find, length, take}
 use Rattle.std.proofs.Common.{drop, min, arith, inl, inr, refl, sym, ◌∙◌, ap, subst}
 use mathlib.Core.Path.{ap₂}
 use Rattle.std.proofs.lemmas.Bool.{leb-false}
@@ -7,8 +7,7 @@ use Rattle.std.proofs.lemmas.List.{take-take, take_all}
 use Rattle.std.proofs.Math.Nat.{min-eq_left}
 use Rattle.rlsf_base.specs.declared.memory.range.Range.{Range}
 use Rattle.rlsf_base.specs.Range.{end_of, LiesIn, range_at}
-use Rattle.rlsf_base.specs.Out.{is_own}
-use Rattle.rlsf_base.specs.Space.{Space, bytes_in, out_at, range_of, word_at}
+use Rattle.rlsf_base.specs.Space.{Space, bytes_in, range_of, word_at}
 use Rattle.rlsf_base.specs.OpenSpace.{IsHere, IsOwned}
 use Rattle.rlsf_base.proofs.Lending.Present.{own-there}
 use Rattle.rlsf_base.proofs.Lending.Copied.{bytes_in-copied, word_at-with_bytes}
@@ -16,7 +15,7 @@ use Rattle.rlsf_model.specs.Allocate.{rest_behind}
 use Rattle.rlsf_model.specs.Join.{ends_at, start_or}
 use Rattle.rlsf_model.specs.Lists.{IsIn, without}
 use Rattle.rlsf_model.specs.Payload.{payload_of}
-use Rattle.rlsf_model.specs.Reallocate.{Keeps, Plan, in_place, moved, replanned, resized, tail_joined}
+use Rattle.rlsf_model.specs.Reallocate.{Keeps, in_place, moved, replanned}
 use Rattle.rlsf_model.specs.State.{State, Used, between, usable}
 use Rattle.rlsf_model.specs.WellFormed.{IsWellFormed}
 use Rattle.rlsf_model.proofs.Changes.{IsIn-others, IsIn-rest_behind}
@@ -45,7 +44,7 @@ use Rattle.rlsf_blocks.proofs.Words.Refilled.{Touched-joined, IsUsedStill, old_u
 
 -- a block that is too short to grow in place has fewer bytes than its payload is to have
 in_place-short : (s : State) (u : Used) (size : ℕ) → u.block.len % 32 ≡ 0 → u.block.start ≤ u.payload → in_place s u size ≡ None → end_of u.block < u.payload + size
-in_place-short s u size whole after none = grind (arith, by_test, leb, none, leb-false) steps 200000
+in_place-short s u size whole after none = grind (arith, by_test, leb, none, leb-false)
 
 module _ {fllen sllen : ℕ} {m : Space} {t : Table} {s : State} (v : StandsFor fllen sllen (contents m t) s) (u : Used) (i : IsIn u s.used) (size : ℕ) (f : Range)
     (found : find (ends_at u.block.start) s.free ≡ Some f) (fits : end_of (planned s u size f).block ≤ reach s u) (short : in_place s u size ≡ None) where

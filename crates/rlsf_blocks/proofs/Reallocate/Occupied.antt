@@ -34,7 +34,7 @@ module _ {fllen sllen : ℕ} {m : Space} {table : Table} {free : List Range} {bl
   -- the size word was written
   pub sized_from : {m1 : Space} → m1.start ≡ m.start → m1.bytes ≡ with_word m block (taken + 1) → m1.out ≡ out_with m (word_range block)
       → IsWrite m m1 block (taken + 1)
-  sized_from same written out = grind (arith, IsWritable-in, placed_here, write) steps 200000
+  sized_from same written out = grind (arith, IsWritable-in, placed_here, write)
 
   -- no free block has an address of the span
   apart : (g : Range) → IsIn g free → (a : ℕ) → Has span a → Has g a → ⊥
@@ -56,7 +56,7 @@ module _ {fllen sllen : ℕ} {m : Space} {table : Table} {free : List Range} {bl
 
   module _ {m1 : Space} (sized : IsWrite m m1 block (taken + 1)) where
     unlinked : (g : Range) → IsIn g free → ¬ (g.start ≡ block) × ¬ (g.start + 16 ≡ block) × ¬ (g.start + 24 ≡ block)
-    unlinked g i = grind (arith, begins_elsewhere) steps 200000
+    unlinked g i = grind (arith, begins_elsewhere)
 
     -- ---- a rest is left
 
@@ -143,4 +143,4 @@ module _ {fllen sllen : ℕ} {m : Space} {table : Table} {free : List Range} {bl
           joined a (inr at) = at_other (omega arith)
 
           other : (g : Range) → IsIn g free → ¬ (g.start ≡ block + total + 8) × ¬ (g.start + 16 ≡ block + total + 8) × ¬ (g.start + 24 ≡ block + total + 8)
-          other g i = grind arith steps 200000
+          other g i = grind arith

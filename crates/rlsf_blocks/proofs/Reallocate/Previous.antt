@@ -106,7 +106,7 @@ module _ {fllen sllen : ℕ} {memory : Range} {s : State} (w : IsWellFormed flle
     length_of = taken_is ∙ ap₂ (λ b n. next_multiple_of (payload - b + n) 32) (sym before.2) wanted_is
 
     pub FitsBefore-computed : taken ≤ end - start + more → FitsBefore s u size payload taken
-    FitsBefore-computed fits = grind (arith, before, placed, length_of, reached, previous-le, block-le) steps 200000
+    FitsBefore-computed fits = grind (arith, before, placed, length_of, reached, previous-le, block-le)
 
     pub into_previous-refused : end - start + more < taken → into_previous s u size ≡ None
-    into_previous-refused short = grind (arith, before, length_of, placed, into_previous-too_long, reached, previous-le, block-le) steps 200000
+    into_previous-refused short = grind (arith, before, length_of, placed, into_previous-too_long, reached, previous-le, block-le)

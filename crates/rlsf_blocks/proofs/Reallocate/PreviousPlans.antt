@@ -134,14 +134,14 @@ module _ {fllen sllen : ℕ} {first m : Space} {t : Table} {s : State} {u : Used
   start-fits = let inside = inner.room.placed.lies_in in omega (arith, begins, spans.start, inside, inner.room.list.addressable)
 
   pub part : (taken % 32 ≡ 0) × (0 < taken) × (taken ≤ end - start + next)
-  part = grind (arith, spans, length_of, fits, total_is) steps 200000
+  part = grind (arith, spans, length_of, fits, total_is)
 
   -- ---- the payload was copied
 
   module _ {m3 : Space} (same_start : m3.start ≡ m2.start) (copied : m3.bytes ≡ with_bytes m2 to (bytes_in m2 (range_at payload (end - payload))))
       (out : m3.out ≡ out_with m2 (range_at to (end - payload))) where
     IsCopied-computed : IsCopied m2 m3 (union u.block s.free) (usable u) (payload_of are.plan.previous.start u.align)
-    IsCopied-computed = grind (arith, spans, placed, fits, usable_is) steps 200000
+    IsCopied-computed = grind (arith, spans, placed, fits, usable_is)
 
     pub room : IsInnerRoom fllen sllen m3 t2 (untouched u.block s.free) (union u.block s.free)
     room = IsInnerRoom-copied (union u.block s.free) inner (usable u) (payload_of are.plan.previous.start u.align) IsCopied-computed

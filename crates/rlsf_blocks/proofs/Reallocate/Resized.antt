@@ -1,12 +1,11 @@
 -- A used block got another size in place: the value represents the state with it.
-use Rattle.std.proofs.Common.{◌≡◌, ℕ, ◌+◌, ◌-◌, ◌%◌, ◌^◌, ◌<◌, ◌≤◌, ◌⊎◌, true, List, ◌∷◌, ◌++◌, length, drop, min, arith, inl, inr, refl, sym, ◌∙◌, ap, subst}
+use Rattle.std.proofs.Common.{◌≡◌, ℕ, ◌+◌, ◌-◌, ◌%◌, ◌^◌, ◌<◌, ◌≤◌, ◌⊎◌, List, ◌∷◌, ◌++◌, length, drop, min, arith, inl, inr, refl, sym, ◌∙◌, ap, subst}
 use mathlib.Core.Path.{ap₂}
 use Rattle.std.proofs.lemmas.List.{take-take}
 use Rattle.std.specs.Int.{w64, from_le_bytes}
 use Rattle.rlsf_base.specs.declared.memory.range.Range.{Range}
-use Rattle.rlsf_base.specs.Out.{is_own}
 use Rattle.rlsf_base.specs.Range.{end_of, range_at, LiesIn}
-use Rattle.rlsf_base.specs.Space.{Space, bytes_in, out_at, range_of, word_at, word_range}
+use Rattle.rlsf_base.specs.Space.{Space, bytes_in, range_of, word_at, word_range}
 use Rattle.rlsf_base.proofs.Lending.WordIsHere.{is_here-word, word_at-is}
 use Rattle.rlsf_model.specs.Allocate.{rest_behind}
 use Rattle.rlsf_model.specs.Lists.{IsIn}

@@ -102,7 +102,7 @@ module _ {fllen sllen : ℕ} {m : Space} {t : Table} {s : State} (v : StandsFor 
 
     -- an address that is no usable byte of another payload
     beside : (a : ℕ) → ((y : Used) → IsIn y (others u.payload s.used) → y.payload ≤ a → a < end_of y.block → ⊥) → IsUnlent (released s u) a
-    beside a apart y j = grind (arith, cases_lt) steps 200000
+    beside a apart y j = grind (arith, cases_lt)
 
     pub IsOwned-rest : u.block.start ≤ x → IsOwned m (between x (end_of (span_of s u)))
     IsOwned-rest after a lo hi = let here = home in

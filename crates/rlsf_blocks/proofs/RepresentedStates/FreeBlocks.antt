@@ -26,4 +26,4 @@ module _ {fllen sllen : ℕ} {m : Space} {t : Table} {s : State} (v : StandsFor 
       }
 
   pub IsFreeTable-free : IsFreeTable fllen sllen m t s.free
-  IsFreeTable-free = grind (arith, CanBeBlock-free, free-le, tiling_of) steps 200000
+  IsFreeTable-free = grind (arith, CanBeBlock-free, free-le, tiling_of)

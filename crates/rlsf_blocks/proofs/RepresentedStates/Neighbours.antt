@@ -45,7 +45,7 @@ module _ {fllen sllen : ℕ} {memory : Range} {s : State} (w : IsWellFormed flle
 
   -- a range that begins in another's bytes or at its end begins at its end, if the two have no address in common
   begins_at_end : (r q : Range) → 0 < r.len → ((a : ℕ) → Has r a → Has q a → ⊥) → Has q (end_of r) → q.start ≡ end_of r
-  begins_at_end r q some apart h = grind (arith, cases_lt) steps 200000
+  begins_at_end r q some apart h = grind (arith, cases_lt)
 
   module _ (u : Used) (i : IsIn u s.used) where
     pub behind_used : Behind s (end_of u.block)

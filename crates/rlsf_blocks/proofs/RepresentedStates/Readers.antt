@@ -1,6 +1,6 @@
 -- What is read of the class table of a value, in terms of the state that it represents.
 use Rattle.std.proofs.Common.{◌≡◌, ℕ, ◌+◌, ◌<◌, ◌≤◌, false, List, [], ◌∷◌, Option, Some, MatchOption, option_map, slice_index, arith, refl, sym}
-use Rattle.std.proofs.Common.{◌∙◌, ap, subst, inl, inr}
+use Rattle.std.proofs.Common.{◌∙◌, ap, subst, inl}
 use Rattle.std.specs.Int.NonZero.{non_zero_usize_get}
 use Rattle.std.specs.List.{list_any}
 use Rattle.std.specs.declared.num.NonZeroUsize.{NonZeroUsize}
@@ -37,7 +37,7 @@ module _ (fllen sllen : ℕ) (v : Contents) (s : State) (stands : StandsFor flle
   -- the first level, read row by row
   pub rows_of-first_level : (read : ℕ) → ((fl : ℕ) → fl < fllen → bit read fl ≡ bit v.table.first_level fl) → ((fl : ℕ) → fllen ≤ fl → bit read fl ≡ false)
       → (fl : ℕ) → bit read fl ≡ list_any (is_in_row sllen fl) s.free
-  rows_of-first_level read within past fl = grind (arith, cases_lt, past_rows) steps 200000
+  rows_of-first_level read within past fl = grind (arith, cases_lt, past_rows)
 
 module _ (fllen sllen : ℕ) (v : Contents) (s : State) (stands : StandsFor fllen sllen v s) (fl : ℕ) (row : fl < fllen) where
   -- no free range begins at 0
@@ -55,10 +55,10 @@ module _ (fllen sllen : ℕ) (v : Contents) (s : State) (stands : StandsFor flle
 
   -- no range has a place past the row
   past_row : (sl : ℕ) → sllen ≤ sl → list_any (has_class sllen (class_at fl sl)) s.free ≡ false
-  past_row sl past = grind (arith, list_any-false, and_right, ne_eqb, division-lt, some) steps 200000
+  past_row sl past = grind (arith, list_any-false, and_right, ne_eqb, division-lt, some)
 
   -- the row's word, read place by place
   pub places_of-row : (read : ℕ) → ((sl : ℕ) → sl < sllen → bit read sl ≡ bit (slice_index v.table.second_level fl) sl)
       → ((sl : ℕ) → sllen ≤ sl → bit read sl ≡ false)
       → (sl : ℕ) → bit read sl ≡ list_any (has_class sllen (class_at fl sl)) s.free
-  places_of-row read within past sl = grind (arith, cases_lt, past_row) steps 200000
+  places_of-row read within past sl = grind (arith, cases_lt, past_row)

@@ -52,11 +52,11 @@ module _ {fllen sllen : ℕ} {m : Space} {t : Table} {s : State} (v : StandsFor 
 
     -- which is that of the chunk's sentinel, where the iteration is at the chunk's end
     pub end_there : {word : ℕ} → word ≡ word_at m a → word ≡ 35 → a + 32 ≡ end_of c
-    end_there {word} read sentinel = grind (arith, block_behind, block_word, end_behind) steps 200000
+    end_there {word} read sentinel = grind (arith, block_behind, block_word, end_behind)
 
     -- a block begins there, where the word is another
     begins_there : {word : ℕ} → word ≡ word_at m a → word ≢ 35 → BlockBegins s a
-    begins_there {word} read other = grind (arith, block_behind, end_behind) steps 200000
+    begins_there {word} read other = grind (arith, block_behind, end_behind)
 
     -- and the iteration goes on behind it
     pub IsInChunk-next : {word : ℕ} → word ≡ word_at m a → word ≢ 35 → IsInChunk s c (a + word / 32 * 32) × (a < a + word / 32 * 32)

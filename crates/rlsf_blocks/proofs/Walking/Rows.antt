@@ -1,5 +1,5 @@
 -- An iteration over contiguous chunks is at a block, or at its end.
-use Rattle.std.proofs.Common.{◌≡◌, ℕ, ◌-◌, ◌^◌, ◌<◌, ◌≤◌, min, arith, inl, inr, refl, subst}
+use Rattle.std.proofs.Common.{◌≡◌, ℕ, ◌-◌, ◌^◌, ◌<◌, ◌≤◌, min, arith, inl, inr, subst}
 use Rattle.std.proofs.lemmas.Bool.{cases_lt}
 use Rattle.rlsf_base.specs.declared.memory.range.Range.{Range}
 use Rattle.rlsf_base.specs.Range.{end_of}
@@ -70,12 +70,12 @@ module _ {fllen sllen : ℕ} {m : Space} {t : Table} {s : State} (v : StandsFor 
 
   -- the iteration begins at the rounded start, if that is before the end, and the end is not cut off
   pub IsSpan-some : (r : Range) (end : ℕ) → end ≡ min (end_of r) (2 ^ 64 - 1) → round32 r.start < end → IsRow s (walked r) → IsSpan (walked r) (round32 r.start) end
-  IsSpan-some r end cut lt row = grind (arith, row_addressable) steps 200000
+  IsSpan-some r end cut lt row = grind (arith, row_addressable)
 
   -- at the end, if that is not before the rounded start
   pub IsSpan-over : (r : Range) (end : ℕ) → end ≡ min (end_of r) (2 ^ 64 - 1) → end ≤ round32 r.start → round32 r.start < 2 ^ 64 → IsSpan (walked r) end end
-  IsSpan-over r end cut over fits = grind arith steps 200000
+  IsSpan-over r end cut over fits = grind arith
 
   -- or if the rounded start is past the last address
   pub IsSpan-past : (r : Range) (end : ℕ) → 2 ^ 64 ≤ round32 r.start → IsRow s (walked r) → IsSpan (walked r) end end
-  IsSpan-past r end past row = grind (arith, row_addressable) steps 200000
+  IsSpan-past r end past row = grind (arith, row_addressable)

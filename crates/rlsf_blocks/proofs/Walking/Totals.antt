@@ -1,5 +1,5 @@
 -- The totals with one block more.
-use Rattle.std.proofs.Common.{◌≡◌, ℕ, ◌+◌, ◌≤◌, Bool, true, false, cond, not, List, ◌∷◌, length, map, arith, refl, sym, ◌∙◌, ap, inl}
+use Rattle.std.proofs.Common.{◌≡◌, ℕ, ◌+◌, ◌≤◌, Bool, true, false, cond, not, List, ◌∷◌, length, map, arith, refl, ap, inl}
 use Rattle.std.proofs.lemmas.List.Sums.{sum_by-cons}
 use Rattle.std.specs.Prelude.{max}
 use Rattle.rlsf_blocks.specs.Blocks.{Block, IsInOrder}
@@ -46,7 +46,7 @@ module _ (s : Totals) (b : Block) (bs all : List Block) (is : IsCounted s (b ∷
       (record { payloads = s.payloads; used = s.used; free = s.free + b.range.len; longest = max s.longest b.range.len })
 
   by_use : (k : Bool) → b.is_occupied ≡ k → (when k).payloads ≤ (when k).used → IsCounted (when k) bs all
-  by_use h1 e few = grind (arith, used_cons, total_cons, free_skip, below, used_skip, free_cons, max_max) steps 200000
+  by_use h1 e few = grind (arith, used_cons, total_cons, free_skip, below, used_skip, free_cons, max_max)
 
   pub one_more : (counted s b).payloads ≤ (counted s b).used → IsCounted (counted s b) bs all
   one_more few = by_use b.is_occupied refl few

@@ -18,11 +18,11 @@ use Rattle.rlsf_blocks.proofs.Words.Apart.{Has, used_free, free_in_memory, used_
 
 -- of two ranges that have no address in common, one ends before the other begins
 pub sides : (r q : Range) → 0 < r.len → 0 < q.len → ((a : ℕ) → Has r a → Has q a → ⊥) → (end_of r ≤ q.start) ⊎ (end_of q ≤ r.start)
-sides r q some more apart = grind (arith, cases_lt) steps 200000
+sides r q some more apart = grind (arith, cases_lt)
 
 -- two blocks of complete granules that have no address in common: one ends in the other only where that begins
 pub begins_there : (r q : Range) → 0 < q.len → ((a : ℕ) → Has r a → Has q a → ⊥) → Has r (end_of q) → r.start ≡ end_of q
-begins_there r q some apart at = grind (arith, cases_lt) steps 200000
+begins_there r q some apart at = grind (arith, cases_lt)
 
 module _ {fllen sllen : ℕ} {m n : Space} {s : State} (w : IsWellFormed fllen sllen (range_of m) s) (hole : Range) (whole : hole.start % 32 ≡ 0) (room : 0 < hole.len)
     (past : ℕ) (second : past % 32 ≡ 8) (not_before : hole.start ≤ past) (not_far : past ≤ end_of hole + 8) (rewrites : Rewrites m n (Touched s.free hole past)) where

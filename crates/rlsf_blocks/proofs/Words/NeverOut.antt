@@ -10,8 +10,7 @@ use Rattle.rlsf_base.specs.Space.{Space, out_at, range_of, word_at, word_range}
 use Rattle.rlsf_base.specs.OpenSpace.{IsOwned, IsReadable}
 use Rattle.rlsf_model.specs.Lists.{IsIn}
 use Rattle.rlsf_model.specs.State.{State, Used, between, usable}
-use Rattle.rlsf_model.specs.WellFormed.{IsWellFormed, coverage, itself, last_bytes}
-use Rattle.rlsf_model.proofs.Coverage.{covers-inside, coverage-IsIn}
+use Rattle.rlsf_model.specs.WellFormed.{IsWellFormed, last_bytes}
 use Rattle.rlsf_model.proofs.Payloads.{IsUsed-after_start}
 use Rattle.rlsf_table.specs.Table.{Table}
 use Rattle.rlsf_blocks.specs.StandsFor.{contents, IsUnlent, OwnsChunks, StandsFor}

@@ -1,4 +1,3 @@
-use Rattle.rlsf_base.specs.Range.{range_at, end_of}
 use Rattle.std.proofs.Common.{◌≡◌, ◌+◌, List, arith, rules}
 use Rattle.rlsf_base.specs.declared.memory.range.Range.{Range}
 use Rattle.rlsf_blocks.specs.Steps.Rest.{IsInnerRoom}
@@ -10,7 +9,7 @@ use Rattle.rlsf_blocks.proofs.free.put.Goals as goal
 use Rattle.rlsf_blocks.proofs.free.put.Goals.{After-set_word_at-2}
 
 pub set_word_at-requires-2-clause-place : goal.set_word_at-requires-2-clause-place
-set_word_at-requires-2-clause-place g c = grind (arith, placed_as, IsWritable-in) steps 200000
+set_word_at-requires-2-clause-place g c = grind (arith, placed_as, IsWritable-in)
 
 -- the two words are written
 written : (g : given.Over) (c : After-set_word_at-2 g) {free : List Range} (r : Range) → IsInnerRoom g.row.FLLEN g.row.SLLEN c.args.memory.now c.args.table.now free r

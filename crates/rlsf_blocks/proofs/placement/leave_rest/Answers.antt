@@ -26,7 +26,7 @@ written g c r room start len =
     (c.set_word_at-3.ensures.start, three, wrote_there c.set_word_at-2.new.self c.set_word_at-3.new.self (block + c.args.len + 8) c.set_word_at-3.ensures.out (omega arith))
 
 pub set_word_at-requires-2-clause-place : goal.set_word_at-requires-2-clause-place
-set_word_at-requires-2-clause-place g c = grind (arith, placed_as, IsWritable-in) steps 200000
+set_word_at-requires-2-clause-place g c = grind (arith, placed_as, IsWritable-in)
 
 pub set_word_at-requires-3-clause-place : goal.set_word_at-requires-3-clause-place
 set_word_at-requires-3-clause-place g c =

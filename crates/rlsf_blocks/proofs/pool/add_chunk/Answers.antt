@@ -37,10 +37,10 @@ first_two g c =
     (placed_as one.new.self two.new.self two.ensures.start two.ensures.len two.ensures.own)
 
 pub set_word-requires-2 : goal.set_word-requires-2
-set_word-requires-2 g c = grind (arith, placed_as, IsWritable-in, c.requires.fresh, c.set_word.ensures.start, c.set_word.ensures.len, c.set_word.ensures.own) steps 200000
+set_word-requires-2 g c = grind (arith, placed_as, IsWritable-in, c.requires.fresh, c.set_word.ensures.start, c.set_word.ensures.len, c.set_word.ensures.own)
 
 pub set_word-requires-3 : goal.set_word-requires-3
-set_word-requires-3 g c = grind (arith, first_two, After-set_word-2, IsWritable-in, c.requires.fresh) steps 200000
+set_word-requires-3 g c = grind (arith, first_two, After-set_word-2, IsWritable-in, c.requires.fresh)
 
 pub set_word-requires-4 : goal.set_word-requires-4
 set_word-requires-4 g c =

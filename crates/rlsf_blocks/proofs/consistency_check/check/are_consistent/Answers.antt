@@ -1,7 +1,5 @@
-use Rattle.std.proofs.Common.{◌^◌, ◌<◌, true≢false, arith, refl, sym, inl, inr}
+use Rattle.std.proofs.Common.{true≢false, arith, refl, sym, inl, inr}
 use borrow.Author.Count.{below_more}
-use Rattle.rlsf_base.specs.Range.{end_of}
-use Rattle.rlsf_base.specs.Space.{range_of}
 use Rattle.rlsf_blocks.specs.Blocks.{walked}
 use Rattle.rlsf_blocks.specs.Consistency.Consistent.{HasChunks}
 use Rattle.rlsf_blocks.specs.Consistency.Pools.{HasPoolAt, pool_at}
@@ -41,7 +39,7 @@ has_chunks-requires g c =
     (omega arith, (c.requires.parameters, (legible, reaches_pool ps m k is)))
 
 pub returns-then-not-has_chunks : goal.returns-then-not-has_chunks
-returns-then-not-has_chunks g c = grind (arith, true≢false, pools_chunks, c.if-not-has_chunks.ensures.1, g.row.FLLEN, g.row.SLLEN, c.loop-k-test.true) steps 200000
+returns-then-not-has_chunks g c = grind (arith, true≢false, pools_chunks, c.if-not-has_chunks.ensures.1, g.row.FLLEN, g.row.SLLEN, c.loop-k-test.true)
 
 pub loop-k-preserved : goal.loop-k-preserved
 loop-k-preserved g c =

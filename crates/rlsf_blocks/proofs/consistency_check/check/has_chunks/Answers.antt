@@ -1,6 +1,4 @@
-use Rattle.std.proofs.Common.{◌≡◌, ◌+◌, ◌-◌, ◌%◌, ◌^◌, ◌<◌, true≢false, arith, refl, sym, ◌∙◌, inl, inr, subst}
-use Rattle.rlsf_base.specs.Range.{end_of}
-use Rattle.rlsf_base.specs.Space.{range_of}
+use Rattle.std.proofs.Common.{◌≡◌, ◌+◌, ◌-◌, ◌%◌, ◌<◌, true≢false, arith, refl, sym, ◌∙◌, inl, inr, subst}
 use Rattle.rlsf_model.specs.State.{between}
 use Rattle.rlsf_blocks.specs.Steps.BlockAt.{CanReadChunks, IsSpanOf}
 use Rattle.rlsf_blocks.proofs.Consistency.Pieces.{IsBase-valid}
@@ -17,7 +15,7 @@ returns-then-range-skipped g c =
     )
 
 pub returns-then-is_within : goal.returns-then-is_within
-returns-then-is_within g c = grind (arith, HasChunks-rest, rest_of) steps 200000
+returns-then-is_within g c = grind (arith, HasChunks-rest, rest_of)
 
 pub returns-else-is_within : goal.returns-else-is_within
 returns-else-is_within g c =

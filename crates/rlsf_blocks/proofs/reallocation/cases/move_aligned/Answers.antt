@@ -12,7 +12,7 @@ there : {s : State} {u : Used} {block payload addr align : ℕ} → addr ≡ pay
 there same is = record { is_used = is.is_used; start = is.start; caller = is.caller ∙ sym same; alignment = is.alignment }
 
 pub payload_in-payload-requires : goal.payload_in-payload-requires
-payload_in-payload-requires g c = grind (arith, narrow_start, c.requires.used, c.requires.narrow) steps 200000
+payload_in-payload-requires g c = grind (arith, narrow_start, c.requires.used, c.requires.narrow)
 
 pub moved-requires : goal.moved-requires
 moved-requires g c =

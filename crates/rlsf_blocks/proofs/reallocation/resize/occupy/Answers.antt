@@ -12,7 +12,7 @@ use Rattle.rlsf_blocks.proofs.reallocation.resize.occupy.Goals.{After-set_word_a
 sized : (g : given.Over) (c : After-set_word_at g) {free : List Range} (span : Range) → span.start ≡ c.args.block → span.len ≡ c.args.total
     → IsSpanRoom g.row.FLLEN g.row.SLLEN c.args.memory.now c.args.table.now free span c.args.taken
     → IsWrite c.args.memory.now c.set_word_at.new.self c.args.block (c.args.taken + 1)
-sized g c span start len inner = grind (arith, sized_from, wrote, wrote_there, c.set_word_at.ensures, c.requires.part) steps 200000
+sized g c span start len inner = grind (arith, sized_from, wrote, wrote_there, c.set_word_at.ensures, c.requires.part)
 
 pub leave_rest-requires : goal.leave_rest-requires
 leave_rest-requires g c =
