@@ -12,7 +12,7 @@ use Rattle.rlsf_table.specs.FreeList.{Links}
 use Rattle.rlsf_table.specs.Rewrites.{CanBeBlock, Rewrites}
 use Rattle.rlsf_table.specs.Steps.ClassList.{IsFreeList}
 use Rattle.rlsf_table.specs.FreeTable.{IsFreeTable, IsRoom}
-use Rattle.rlsf_table.specs.Table.{Table, head_at, of_class, HasTable}
+use Rattle.rlsf_table.specs.Table.{Table, HasTable}
 use Rattle.rlsf_table.proofs.FreeLists.Chains.{Links-same}
 
 module _ (m n : Space) (start : n.start ≡ m.start) (bytes : n.bytes ≡ m.bytes) (out : n.out ≡ m.out) where

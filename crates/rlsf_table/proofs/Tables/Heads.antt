@@ -1,6 +1,6 @@
 -- The heads of the class table, one of which is written.
 use Rattle.std.proofs.Common.{◌≡◌, ◌≢◌, ℕ, ◌<◌, List, [], length, slice_index, slice_index_or, slice_set, get_or-set_same, get_or-set_other, length-set, arith}
-use Rattle.std.proofs.Common.{◌∙◌, ap, refl, subst, inl, inr}
+use Rattle.std.proofs.Common.{◌∙◌, ap, refl, subst}
 use Rattle.std.proofs.lemmas.Bool.{cases_eq}
 use Rattle.rlsf_table.specs.Table.{Table, HasPlaces, IsHeadSet}
 
