@@ -1,5 +1,5 @@
 -- What a call leaves of a memory's place and counts, after one that only counted.
-use Rattle.std.proofs.Common.{◌≡◌, ℕ, ◌+◌, ◌≤◌, arith, ◌∙◌}
+use Rattle.std.proofs.Common.{◌≡◌, ℕ, ◌+◌, ◌≤◌, arith}
 use Rattle.rlsf_base.specs.Space.{Space}
 use Rattle.rlsf_table.specs.Counts.{Counts}
 
@@ -9,15 +9,7 @@ pub Counts-loaded : (m n : Space) → n.start ≡ m.start → n.bytes ≡ m.byte
 Counts-loaded m n start bytes touches copied view out = record { out = out; start = start; bytes = bytes; touches = omega arith; grow = omega arith; copied = copied; view = view }
 
 pub Counts-counted_first : (m n o : Space) (most more : ℕ) → Counts m n most → Counts n o more → Counts m o (most + more)
-Counts-counted_first m n o most more first second = record {
-  start = second.start ∙ first.start;
-  bytes = second.bytes ∙ first.bytes;
-  touches = omega arith;
-  grow = omega arith;
-  copied = second.copied ∙ first.copied;
-  view = second.view ∙ first.view;
-  out = second.out ∙ first.out;
-}
+Counts-counted_first m n o most more first second = grind arith
 
 pub copied-more : (m n : Space) (more : ℕ) → n.copied ≡ m.copied → n.copied ≤ m.copied + more
 copied-more m n more same = omega arith

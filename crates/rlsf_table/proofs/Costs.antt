@@ -1,5 +1,5 @@
 -- What several steps cost together.
-use Rattle.std.proofs.Common.{◌≡◌, ℕ, ◌+◌, ◌≤◌, length, arith, ◌∙◌, ap}
+use Rattle.std.proofs.Common.{◌≡◌, ℕ, ◌+◌, ◌≤◌, length, arith}
 use Rattle.rlsf_base.specs.Space.{Space, SamePlace, word_range}
 use Rattle.rlsf_base.specs.OpenSpace.{out_with}
 use Rattle.rlsf_base.proofs.Lending.Whole.{none-with}
@@ -7,68 +7,24 @@ use Rattle.rlsf_table.specs.Counts.{Costs, Counts}
 
 -- one step after another
 pub Costs-then : {m n o : Space} {a b c d : ℕ} → Costs m n a c → Costs n o b d → Costs m o (a + b) (c + d)
-Costs-then one two = record {
-  start = two.start ∙ one.start;
-  length = two.length ∙ one.length;
-  touches = omega (arith, one.touches, two.touches);
-  grow = omega (arith, one.grow, two.grow);
-  copied = omega (arith, one.copied, two.copied);
-  view = two.view ∙ one.view;
-  none = λ none. two.none (one.none none);
-}
+Costs-then one two = grind arith
 
 -- a step that wrote nothing
 pub Costs-counted : {m n : Space} {most : ℕ} → Counts m n most → Costs m n most 0
-Costs-counted counts = record {
-  start = counts.start;
-  length = ap length counts.bytes;
-  touches = counts.touches;
-  grow = counts.grow;
-  copied = omega (arith, counts.copied);
-  view = counts.view;
-  none = λ none. counts.out ∙ none;
-}
+Costs-counted counts = grind arith
 
 -- a larger bound
 pub Costs-within : {m n : Space} {a b c : ℕ} → a ≤ b → Costs m n a c → Costs m n b c
-Costs-within within costs = record {
-  start = costs.start;
-  length = costs.length;
-  touches = omega (arith, within, costs.touches);
-  grow = costs.grow;
-  copied = costs.copied;
-  view = costs.view;
-  none = costs.none;
-}
+Costs-within within costs = grind arith
 
 -- a memory that is the same
 pub Costs-same : (m n : Space) → n ≡ m → Costs m n 0 0
-Costs-same m n same =
-    let touches : n.touches ≡ m.touches = ap (λ (o : Space). o.touches) same in
-    let copied : n.copied ≡ m.copied = ap (λ (o : Space). o.copied) same in
-    record {
-      start = ap (λ (o : Space). o.start) same;
-      length = ap (λ (o : Space). length o.bytes) same;
-      touches = omega arith;
-      grow = omega arith;
-      copied = omega arith;
-      view = ap (λ (o : Space). o.view) same;
-      none = λ none. ap (λ (o : Space). o.out) same ∙ none;
-    }
+Costs-same m n same = grind arith
 
 -- a word that is read
 pub Costs-loaded : (m n : Space) → n.start ≡ m.start → n.bytes ≡ m.bytes → n.touches ≡ m.touches + 1 → n.copied ≡ m.copied → n.view ≡ m.view → n.out ≡ m.out
     → Costs m n 1 0
-Costs-loaded m n start bytes touches copied view out =
-    record {
-      start = start;
-      length = ap length bytes;
-      touches = omega (arith, touches);
-      grow = omega (arith, touches);
-      copied = omega (arith, copied);
-      view = view;
-      none = λ none. out ∙ none;
-    }
+Costs-loaded m n start bytes touches copied view out = grind arith
 
 -- a word that is written
 pub Costs-written : (m n : Space) (a : ℕ) → n.start ≡ m.start → length n.bytes ≡ length m.bytes → n.touches ≡ m.touches + 1 → n.copied ≡ m.copied

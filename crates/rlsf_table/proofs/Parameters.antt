@@ -6,9 +6,4 @@ use Rattle.rlsf_table.proofs.Tables.RowLengths.{row_length-bounds}
 
 -- no bitmap has more than 128 positions, and no row more than 128 classes
 pub IsValid-widest : {fl_bits sl_bits fllen sllen : ℕ} → fl_bits ≤ 128 → IsValid fl_bits sl_bits fllen sllen → IsValid 128 128 fllen sllen
-IsValid-widest {sllen = sllen} limit valid = record {
-  some_rows = valid.some_rows;
-  rows_fit = omega (arith, limit, valid.rows_fit);
-  power_of_two = valid.power_of_two;
-  classes_fit = (row_length-bounds sllen valid.power_of_two).1;
-}
+IsValid-widest {sllen = sllen} limit valid = grind (arith, row_length-bounds)

@@ -34,7 +34,7 @@ use Rattle.rlsf_model.proofs.Allocations.{IsWellFormed-given, placed-fits}
 use Rattle.rlsf_model.proofs.Changes.{IsIn-rest_behind}
 use Rattle.rlsf_model.proofs.Choices.{choice-some}
 use Rattle.rlsf_model.proofs.Coverage.{IsIn-append, IsIn-without}
-use Rattle.rlsf_model.proofs.Payloads.{block_length-le, block_length-whole, payload_of-after, payload_of-aligned}
+use Rattle.rlsf_model.proofs.Payloads.{block_length-whole, payload_of-after, payload_of-aligned}
 use Rattle.rlsf_model.proofs.RangeLengths.{wide_whole}
 use Rattle.rlsf_blocks.proofs.Allocate.TakenOut.{left_apart}
 
@@ -62,30 +62,24 @@ module _ {fllen sllen : ℕ} {m : Space} {table : Table} {s : State} (v : Stands
     pub wide : 32 ≤ align → payload_of f.start align % 32 ≡ 0
 
   pub fitting : IsFitting
-  fitting =
-      let below = payload_of-after f.start align in
-      let enough = block_length-le f.start payload size in
-      let granules = block_length-whole f.start payload size in
-      record {
-        whole = (v.well_formed.free f is_free).whole.start;
-        after_start = below;
-        before_end = omega arith;
-        long = omega arith;
-        granules = granules;
-        wide = λ w. wide_whole payload align power w (payload_of-aligned f.start align power);
-      }
+  fitting = record {
+    whole = (v.well_formed.free f is_free).whole.start;
+    after_start = payload_of-after f.start align;
+    before_end = omega arith;
+    long = omega arith;
+    granules = block_length-whole f.start payload size;
+    wide = λ w. wide_whole payload align power w (payload_of-aligned f.start align power);
+  }
 
   pub IsTaken-chosen : IsTaken sllen s f f.start f.len (block_length f.start (payload_of f.start align) size)
-  IsTaken-chosen =
-      let fit = fitting in
-      record {
-        found = (choice-some sllen (request_size size align) s.free f chosen).found;
-        start = refl;
-        length = refl;
-        whole = fit.granules;
-        some = omega (arith, fit.long);
-        fits = placed-fits v.well_formed f size align power chosen;
-      }
+  IsTaken-chosen = record {
+    found = (choice-some sllen (request_size size align) s.free f chosen).found;
+    start = refl;
+    length = refl;
+    whole = fitting.granules;
+    some = omega (arith, fitting.long);
+    fits = placed-fits v.well_formed f size align power chosen;
+  }
 
   -- the used block's words were written
   module _ {n1 n2 n : Space} {changed : Table} (opened : IsOpened fllen sllen m n1 changed s f (range_at f.start (block_length f.start (payload_of f.start align) size)))
@@ -141,12 +135,11 @@ module _ {fllen sllen : ℕ} {m : Space} {table : Table} {s : State} (v : Stands
         used_still : (y : Used) → IsIn y (u ∷ s.used) → IsUsedStill n s f y
         used_still y (inr i) = old_used i (λ a hy hf. used_free v.well_formed y f a i is_free hy hf)
         used_still y (inl same) =
-            let fit = fitting in
             let place = free_in_memory v.well_formed f is_free in
             let size =
-            padded.rewrites.words f.start (omega (arith, fit.whole)) (omega (arith, same_start, sized.start, place.0)) (λ (w, at). omega (arith, fit.after_start))
+            padded.rewrites.words f.start (omega (arith, fitting.whole)) (omega (arith, same_start, sized.start, place.0)) (λ (w, at). omega (arith, fitting.after_start))
             ∙ reads_of sized in
-            let behind = second (f.start + taken + 8) (omega (arith, fit.whole, fit.granules)) (omega (arith, place.0)) ∙ opened.behind in
+            let behind = second (f.start + taken + 8) (omega (arith, fitting.whole, fitting.granules)) (omega (arith, place.0)) ∙ opened.behind in
             subst (IsUsedStill n s f) (sym same) (new_used size behind refl padded.reads)
 
         rest_size : (g : Range) → IsIn g (rest_behind (range_at f.start taken) (end_of f)) → word_at n g.start ≡ word_at n1 g.start
@@ -179,12 +172,10 @@ module _ {fllen sllen : ℕ} {m : Space} {table : Table} {s : State} (v : Stands
             rest_placed short =
                 let fit = fitting in
                 let place = free_in_memory v.well_formed f is_free in
-                let is = v.well_formed.free f is_free in
-                let same = same_start in
                 record {
                   some = omega (arith, fit.long);
                   whole = omega (arith, fit.whole, fit.granules);
-                  room = omega (arith, fit.whole, fit.granules, is.whole.len);
+                  room = omega (arith, fit.whole, fit.granules, (v.well_formed.free f is_free).whole.len);
                   lies_in = (omega (arith, place.0), omega (arith, place.1, opened.rewrites.length));
                   own = own-there m n1 (between (f.start + taken) (end_of f)) (omega arith) opened.rewrites.own
                       (own-inside m f (between (f.start + taken) (end_of f)) (omega arith) (omega (arith, short)) (here_free v f is_free));
@@ -210,28 +201,20 @@ module _ {fllen sllen : ℕ} {m : Space} {table : Table} {s : State} (v : Stands
     pub Places-written : (addr : ℕ) → addr ≡ payload_of f.start align
         → (t : State) × Places sllen s size align addr t × StandsFor fllen sllen (contents n changed) t × KeepsSpare m s n t
     Places-written addr is =
-        let fit = fitting in
         let place = free_in_memory v.well_formed f is_free in
         let free = v.well_formed.free f is_free in
         let home = home_of_free v.well_formed f is_free in
         let bytes = bytes_in n (between payload (end_of (block_for f.start payload size))) in
         let inside : LiesIn (between payload (end_of (block_for f.start payload size))) n.start (length n.bytes) = (
-          omega (arith, rewrites.start, place.0, fit.after_start),
-          omega (arith, rewrites.start, rewrites.length, place.1, fit.before_end, placed-fits v.well_formed f size align power chosen),
+          omega (arith, rewrites.start, place.0, fitting.after_start),
+          omega (arith, rewrites.start, rewrites.length, place.1, fitting.before_end, placed-fits v.well_formed f size align power chosen),
         ) in
         let long : length bytes ≡ end_of (block_for f.start payload size) - payload = length-bytes_in n (between payload (end_of (block_for f.start payload size))) inside in
         let well_formed = IsWellFormed-given v.well_formed f size align power chosen bytes long in
         let same : range_of n ≡ range_of m = ap₂ (λ a l. range_at a l) rewrites.start rewrites.length in
         let t_well_formed = subst (λ p. IsWellFormed fllen sllen p (given sllen s f u)) (sym same) well_formed in (
           given sllen s f u,
-          record {
-            range = f;
-            bytes = bytes;
-            chosen = chosen;
-            answer = is;
-            length = long ∙ ap (λ p. end_of (block_for f.start payload size) - p) (sym is);
-            after = refl;
-          },
+          (grind arith),
           StandsFor-refilled v f free.whole free.some home refilled t_well_formed,
           KeepsSpare-refilled v f free.whole free.some home refilled,
         )
@@ -264,17 +247,15 @@ module _ {fllen sllen : ℕ} {m : Space} {table : Table} {s : State} {v : Stands
   free = is_free v f size align power chosen
 
   pub IsTaken-computed : IsTaken sllen s f block len bytes
-  IsTaken-computed =
-      let fits = fit in
-      record {
-        found = (choice-some sllen (request_size size align) s.free f chosen).found;
-        start = are.start;
-        length = sym are.length;
-        whole = ap (λ n. n % 32) are.taken ∙ fits.granules;
-        some = omega (arith, are.taken, fits.long);
-        fits =
-            omega (arith, are.taken, are.length, placed-fits v.well_formed f size align power chosen);
-      }
+  IsTaken-computed = record {
+    found = (choice-some sllen (request_size size align) s.free f chosen).found;
+    start = are.start;
+    length = sym are.length;
+    whole = ap (λ n. n % 32) are.taken ∙ fit.granules;
+    some = omega (arith, are.taken, fit.long);
+    fits =
+        omega (arith, are.taken, are.length, placed-fits v.well_formed f size align power chosen);
+  }
 
   -- the block's first word lies in the memory, or in another one of its place and length
   pub IsWritable-block : {n : Space} → IsPlacedAs m n → IsWritable n block
@@ -300,10 +281,9 @@ module _ {fllen sllen : ℕ} {m : Space} {table : Table} {s : State} {v : Stands
     IsWritable-pad wide =
         let fits = fit in
         let place = free_in_memory v.well_formed f free in
-        let last = placed-fits v.well_formed f size align power chosen in
         IsWritable-in (placed_then (placed_by is.opened.rewrites) (placed_by (rewrites_of is.sized))) f (omega (arith, place.0), omega (arith, place.1))
         (here_free v f free) (address - 8) (omega (arith, are.payload, fits.wide wide, fits.after_start)) (omega (arith, are.payload, fits.after_start))
-        (omega (arith, are.payload, fits.after_start, fits.before_end, last))
+        (omega (arith, are.payload, fits.after_start, fits.before_end, placed-fits v.well_formed f size align power chosen))
 
     pub padded : (n : Space) → 32 ≤ align → n.start ≡ n2.start → n.bytes ≡ with_word n2 (address - 8) block → n.out ≡ out_with n2 (word_range (address - 8))
         → Writes n2 n (32 ≤ align) (address - 8) block

@@ -24,11 +24,7 @@ use Rattle.rlsf_model.proofs.Tiling.{IsValidClass-le}
 
 -- a part of a range has no address that the range doesn't have
 pub covers-part : (r f : Range) (a : ℕ) → f.start ≤ r.start → end_of r ≤ end_of f → covers r a ≤ covers f a
-covers-part r f a from to = elim (where_is r a) [
-  | inside one low high ↦ omega (arith, covers-inside f a (omega arith) (omega arith))
-  | before none low ↦ omega arith
-  | behind none high ↦ omega arith
-]
+covers-part r f a from to = grind (arith, where_is, inside, covers-inside, before, behind)
 
 -- room for a block stays room for one where no start and no link of the other free blocks was written
 pub IsInnerRoom-Rewrites : {fllen sllen : ℕ} {m n : Space} {t : Table} {free : List Range} {r : Range} {at : ℕ → Type 0} → Rewrites m n at
@@ -62,22 +58,20 @@ pub IsInnerRoom-part : {fllen sllen : ℕ} {m : Space} {t : Table} {free : List 
     → from ≡ r.start + taken → taken % 32 ≡ 0 → taken < r.len → IsInnerRoom fllen sllen m t free (between from (end_of r))
 IsInnerRoom-part {fllen} {sllen} {m} {taken = taken} r span from at granules short =
     let is = span.block in
-    let inside = span.lies_in in
     let some : 0 < end_of r - from = omega arith in
-    let shorter : end_of r - from ≤ r.len = omega arith in
     record {
       room = record {
         list = span.list;
         block = record {
           whole = record { start = omega (arith, is.whole.start); len = omega (arith, is.whole.start, is.whole.len) };
           some = some;
-          valid = IsValidClass-le fllen sllen (end_of r - from) r.len some shorter is.valid;
+          valid = IsValidClass-le fllen sllen (end_of r - from) r.len some (omega arith) is.valid;
         };
         placed = record {
           some = omega (arith, span.some);
           whole = omega (arith, is.whole.start);
           room = omega (arith, is.whole.start, is.whole.len);
-          lies_in = (omega (arith, inside.0), omega (arith, inside.1));
+          lies_in = (omega (arith, span.lies_in.0), omega (arith, span.lies_in.1));
           own = own-inside m (between (r.start + taken) (end_of r)) (between from (end_of r)) (omega arith) (omega arith) span.rest;
         };
         apart = λ a. omega (arith, span.apart a, covers-part (between from (end_of r)) r a (omega arith) (omega arith));
@@ -99,27 +93,19 @@ pub AreLeft-from : {fllen sllen : ℕ} {m m1 m2 m3 : Space} {table : Table} {fre
     → (m3.start ≡ m2.start) × (m3.bytes ≡ with_word m2 (block + len + 8) (block + taken)) × (m3.out ≡ out_with m2 (word_range (block + len + 8)))
     → AreLeft (Unit {0}) m m1 m2 m3 block r
 AreLeft-from {m = m} {m1 = m1} {m2 = m2} {m3 = m3} block len taken r room start_is len_is fits e1 e2 e3 =
-    let inside = room.room.placed.lies_in in
-    let whole = room.room.block.whole in
-    let not_last = room.not_last in
-    let addressable = room.room.list.addressable in
     let start : block + taken ≡ r.start = sym start_is in
-    let size : len - taken ≡ r.len = omega arith in
-    let end : block + len ≡ end_of r = omega arith in
-    let long = room.room.placed.room in
-    let own = room.room.placed.own in
-    let can1 = IsWritable-in (placed_here m) r inside own (block + taken) (omega arith) (omega arith) (omega arith) in
+    let can1 = IsWritable-in (placed_here m) r room.room.placed.lies_in room.room.placed.own (block + taken) (omega arith) (omega arith) (omega arith) in
     let w1 : IsWrite m m1 (block + taken) (len - taken) = write can1 e1.0 e1.1 (omega arith) e1.2 in
     let one = placed_by (rewrites_of w1) in
-    let can2 = IsWritable-in one r inside own (block + taken + 8) (omega arith) (omega arith) (omega arith) in
+    let can2 = IsWritable-in one r room.room.placed.lies_in room.room.placed.own (block + taken + 8) (omega arith) (omega arith) (omega arith) in
     let w2 : IsWrite m1 m2 (block + taken + 8) block = write can2 e2.0 e2.1 fits e2.2 in
     let two = placed_then one (placed_by (rewrites_of w2)) in
     let can3 = IsWritable-in two (range_at (end_of r) 16) (omega arith, room.not_last) room.behind (block + len + 8) (omega arith) (omega arith) (omega arith) in
     let w3 : IsWrite m2 m3 (block + len + 8) (block + taken) = write can3 e3.0 e3.1 (omega arith) e3.2 in
     record {
-      one = subst (λ a. IsWrite m m1 a r.len) start (subst (λ n. IsWrite m m1 (block + taken) n) size w1);
+      one = subst (λ a. IsWrite m m1 a r.len) start (subst (λ n. IsWrite m m1 (block + taken) n) (omega arith) w1);
       two = subst (λ a. Writes m1 m2 (Unit {0}) (a + 8) block) start (Writes-some (Unit {0}) tt w2.placed w2.fits w2.start w2.bytes w2.out);
-      three = subst (λ a. IsWrite m2 m3 (end_of r + 8) a) start (subst (λ a. IsWrite m2 m3 (a + 8) (block + taken)) end w3);
+      three = subst (λ a. IsWrite m2 m3 (end_of r + 8) a) start (subst (λ a. IsWrite m2 m3 (a + 8) (block + taken)) (omega arith) w3);
     }
 
 -- the word that names the block before it isn't written
@@ -161,9 +147,6 @@ module _ {fllen sllen : ℕ} {named : Type 0} {m m1 m2 m3 : Space} {table : Tabl
           × ¬ ((f.start + 24 ≡ r.start) ⊎ ((named × (f.start + 24 ≡ r.start + 8)) ⊎ (f.start + 24 ≡ end_of r + 8)))
       other f i =
           let placed = room.list.placed f i in
-          let mine = room.placed.whole in
-          let long = room.placed.room in
-          let whole = room.block.whole in
           let apart : f.start ≢ r.start =
           λ same. omega (
             arith,
@@ -215,11 +198,6 @@ module _ {fllen sllen : ℕ} {named : Type 0} {m m1 m2 m3 : Space} {table : Tabl
     -- whose second word names the block before it
     pub IsFreeBlockBehind-written : named → IsFreeBlockBehind fllen sllen m n changed free block r
     IsFreeBlockBehind-written holds =
-        let whole = room.block.whole in
-        let long = room.placed.room in
-        let inside = room.placed.lies_in in
-        let same1 = writes.one.start in
-        let same2 = writes.two.rewrites.start in
         let last = rewrites_of writes.three in
         record {
           rewrites = rewrites;
@@ -231,16 +209,13 @@ module _ {fllen sllen : ℕ} {named : Type 0} {m m1 m2 m3 : Space} {table : Tabl
 
     -- or is as it was
     pub IsNewFreeBlock-written : ¬ named → IsNewFreeBlock fllen sllen m n changed free r
-    IsNewFreeBlock-written none =
-        let whole = room.block.whole in
-        let inside = room.placed.lies_in in
-        record {
-          rewrites = rewrites;
-          size = size;
-          first = kept (r.start + 8) (inr (omega arith)) (omega arith) ∙ written.words (r.start + 8) (omega arith) (omega arith) apart;
-          behind = named_behind;
-          table = linked.0;
-        }
+    IsNewFreeBlock-written none = record {
+      rewrites = rewrites;
+      size = size;
+      first = kept (r.start + 8) (inr (omega arith)) (omega arith) ∙ written.words (r.start + 8) (omega arith) (omega arith) apart;
+      behind = named_behind;
+      table = linked.0;
+    }
       where
         apart : (r.start + 8 ≡ r.start) ⊎ ((named × (r.start + 8 ≡ r.start + 8)) ⊎ (r.start + 8 ≡ end_of r + 8)) → ⊥
         apart (inl e) = omega arith

@@ -59,13 +59,12 @@ module _ {fllen sllen : ℕ} {m : Space} {table : Table} {s : State} {f : Range}
       → a < end_of f → ⊥
   unfolding ahead later
   left_apart g i a from to low high =
-      let among = subst (IsIn g) parts.3 i in
       omega (
         arith,
         split_list.apart a,
         coverage-append itself parts.0 (f ∷ parts.1) a,
         coverage-append itself parts.0 parts.1 a,
-        coverage-IsIn itself g (parts.0 ++ parts.1) a among,
+        coverage-IsIn itself g (parts.0 ++ parts.1) a (subst (IsIn g) parts.3 i),
         covers-inside g a from to,
         covers-inside f a low high,
       )
@@ -103,9 +102,6 @@ module _ {fllen sllen : ℕ} {m : Space} {table : Table} {s : State} {f : Range}
     IsOpened-whole all =
         let is = v.well_formed.free f is_free in
         let place = free_in_memory v.well_formed f is_free in
-        let start = take.start in
-        let long = take.length in
-        let fits = take.fits in
         let end : end_of (range_at block taken) ≡ end_of f = omega arith in
         let none : rest_behind (range_at block taken) (end_of f) ≡ [] =
         ap (λ b. cond b (between (end_of (range_at block taken)) (end_of f) ∷ []) []) (le-ltb (end_of (range_at block taken)) (end_of f) (omega arith)) in
@@ -127,18 +123,14 @@ module _ {fllen sllen : ℕ} {m : Space} {table : Table} {s : State} {f : Range}
     IsOpened-rest {n} {changed} short left =
         let is = v.well_formed.free f is_free in
         let place = free_in_memory v.well_formed f is_free in
-        let start = take.start in
-        let long = take.length in
-        let granules = take.whole in
-        let moved = unlinked.1 in
         let some : rest_behind (range_at block taken) (end_of f) ≡ between (end_of (range_at block taken)) (end_of f) ∷ [] =
         ap (λ b. cond b (between (end_of (range_at block taken)) (end_of f) ∷ []) []) (lt-ltb (end_of (range_at block taken)) (end_of f) (omega arith)) in
         record {
           rewrites = Rewrites-weaken joined (Rewrites-trans unlinked_rewrites left.rewrites);
           first =
-              left.rewrites.words (f.start + 8) (omega (arith, is.whole.start)) (omega (arith, moved.start, place.0)) not_first
+              left.rewrites.words (f.start + 8) (omega (arith, is.whole.start)) (omega (arith, unlinked.1.start, place.0)) not_first
               ∙ second_word (f.start + 8) (omega (arith, is.whole.start)) (omega (arith, place.0));
-          behind = left.previous ∙ sym start;
+          behind = left.previous ∙ sym take.start;
           rest =
               λ g i. (let same = (IsIn-rest_behind (range_at block taken) (end_of f) g i).0 in
               subst (λ q. (word_at n q.start ≡ q.len) × (word_at n (end_of q + 8) ≡ q.start)) (sym same) (left.size, left.behind));

@@ -39,11 +39,8 @@ pub AreWrites-from : {fllen sllen : ℕ} {m m1 m2 m3 m4 : Space} {s : State} (c 
     → (m3.start ≡ m2.start) × (m3.bytes ≡ with_word m2 sentinel 35) × (m3.out ≡ out_with m2 (word_range sentinel))
     → (m4.start ≡ m3.start) × (m4.bytes ≡ with_word m3 (sentinel + 8) c.start) × (m4.out ≡ out_with m3 (word_range (sentinel + 8))) → AreWrites m m1 m2 m3 m4 c
 AreWrites-from {m = m} {m1 = m1} {m2 = m2} {m3 = m3} {m4 = m4} c len sentinel new addressable len_is sentinel_is e1 e2 e3 e4 =
-    let whole = new.whole in
-    let room = new.room in
-    let inside = new.lies_in in
     let place : sentinel ≡ sentinel_of c = omega arith in
-    let can = λ (l : Space) (is : IsPlacedAs m l) (a : ℕ). IsWritable-in is c inside new.own a in
+    let can = λ (l : Space) (is : IsPlacedAs m l) (a : ℕ). IsWritable-in is c new.lies_in new.own a in
     let w1 : IsWrite m m1 c.start len = write (can m (placed_here m) c.start (omega arith) (omega arith) (omega arith)) e1.0 e1.1 (omega arith) e1.2 in
     let one = placed_by (rewrites_of w1) in
     let w2 : IsWrite m1 m2 (c.start + 8) 0 = write (can m1 one (c.start + 8) (omega arith) (omega arith) (omega arith)) e2.0 e2.1 (omega arith) e2.2 in
@@ -63,7 +60,6 @@ module _ {fllen sllen : ℕ} {m m1 m2 m3 m4 : Space} {table : Table} {s : State}
   -- each of the four words is in the chunk
   rewrites : Rewrites m m4 (Touched s.free (opened c) (c.start + 8))
   rewrites =
-      let room = new.room in
       Rewrites-weaken go (Rewrites-trans (Rewrites-trans (Rewrites-trans (rewrites_of writes.one) (rewrites_of writes.two)) (rewrites_of writes.three)) (rewrites_of writes.four))
     where
       go : (a : ℕ) → ((((a ≡ c.start) ⊎ (a ≡ c.start + 8)) ⊎ (a ≡ sentinel_of c)) ⊎ (a ≡ sentinel_of c + 8)) → Touched s.free (opened c) (c.start + 8) a
@@ -120,11 +116,7 @@ module _ {fllen sllen : ℕ} {m m1 m2 m3 m4 : Space} {table : Table} {s : State}
       }
 
   apart_body : (a : ℕ) → coverage itself (body c ∷ s.free) a ≤ 1
-  apart_body a = elim (where_is (body c) a) [
-    | inside one low high ↦ omega (arith, new.fresh a low (omega arith), v.well_formed.tiled a)
-    | before none low ↦ omega (arith, free-le s (tiling_of v.well_formed) a)
-    | behind none high ↦ omega (arith, free-le s (tiling_of v.well_formed) a)
-  ]
+  apart_body a = grind (arith, where_is, inside, before, free-le, tiling_of, behind)
 
   -- the new block has room beside them
   pub IsRoom-body : IsRoom fllen sllen m4 table s.free (body c)
@@ -143,13 +135,11 @@ module _ {fllen sllen : ℕ} {m m1 m2 m3 m4 : Space} {table : Table} {s : State}
     pub IsAdded-written : IsAdded fllen sllen m n changed s.free c
     IsAdded-written =
         let whole = new.whole in
-        let room = new.room in
         let r34 = rewrites_of writes.four in
         let r24 = Rewrites-trans (rewrites_of writes.three) (rewrites_of writes.four) in
         let r14 = Rewrites-trans (rewrites_of writes.two) r24 in
         let inside1 : m1.start ≤ c.start = omega (arith, new.lies_in, writes.one.start) in
         let inside2 : m2.start ≤ c.start = omega (arith, writes.two.start) in
-        let inside3 : m3.start ≤ c.start = omega (arith, writes.three.start) in
         let granule : sentinel_of c % 32 ≡ 0 = omega (arith, whole.start, whole.len) in
         record {
           rewrites = Rewrites-weaken joined (Rewrites-trans rewrites linked.1);

@@ -39,12 +39,11 @@ pub outside_of-found : (r f : Range) (test : Range → Bool) (xs : List Range) �
     → outside_of r xs ≡ without test xs
 outside_of-found r f test xs found lies others =
     let (before, after, parts, left, ahead) = find-split test f xs found in
-    let outside = others before after parts in
     ap (outside_of r) parts
     ∙ filter-append (λ x. not (lies_within r x)) before (f ∷ after)
     ∙ ap (λ b. outside_of r before ++ cond (not b) (f ∷ outside_of r after) (outside_of r after)) lies
     ∙ sym (filter-append (λ x. not (lies_within r x)) before after)
-    ∙ outside_of-none r (before ++ after) outside
+    ∙ outside_of-none r (before ++ after) (others before after parts)
     ∙ sym left
 
 -- a range that doesn't lie on both sides of an address lies between two others if it lies on one side

@@ -97,10 +97,7 @@ module _ {fllen sllen : ℕ} {m0 : Space} {table0 : Table} {s : State} (v : Stan
 
     -- which is the memory's own, where the range was
     pub IsOwned-next : IsOwned m0 r → IsOwned m (range_at start (first_length (max_pool_size fllen) left))
-    IsOwned-next owned a low high =
-        let shorter : first_length (max_pool_size fllen) left ≤ left = first_length-le (max_pool_size fllen) left in
-        let up = round32-le r.start in
-        filled.stays.own a (omega (arith, low, filled.from, fresh.lies_in.0)) ∙ owned a (omega (arith, low, filled.from)) (omega (arith, high, filled.to, shorter))
+    IsOwned-next owned a low high = grind (arith, first_length-le, round32-le)
 
     pub IsNewChunk-next : IsOwned m0 r → IsNewChunk fllen sllen m filled.now (range_at start (first_length (max_pool_size fllen) left))
     IsNewChunk-next owned =
@@ -161,14 +158,12 @@ module _ {fllen sllen : ℕ} {m0 : Space} {table0 : Table} {s : State} (v : Stan
             let room = (new.chunk (range_at start (first_length (max_pool_size fllen) left)) (inl refl)).has_room in
             some_chunk (omega arith) (ap (bytes_taken r.start) (same ∙ more))
         answered (some_chunk after is) =
-            let room = (new.chunk (range_at start (first_length (max_pool_size fllen) left)) (inl refl)).has_room in
             some_chunk (omega arith) (is ∙ ap (λ cs. Some (end_of_last start cs - r.start)) more)
 
         no_hole : (a : ℕ) → IsSpare (with_chunk (range_at start (first_length (max_pool_size fllen) left)) filled.now) a
             → Has (opened (range_at start (first_length (max_pool_size fllen) left))) a → ⊥
         no_hole a spare h =
             let c = range_at start (first_length (max_pool_size fllen) left) in
-            let room = (new.chunk c (inl refl)).has_room in
             omega (arith, spare c (inl refl) h.from (omega (arith, h.to)), h.to)
 
         no_other : (a : ℕ) → IsSpare (with_chunk (range_at start (first_length (max_pool_size fllen) left)) filled.now) a → start + 8 ≤ a → a < start + 8 + 8 → ⊥
@@ -192,7 +187,4 @@ module _ {fllen sllen : ℕ} {m0 : Space} {table0 : Table} {s : State} (v : Stan
 
   -- a range with no aligned byte is no chunk
   pub nothing_inserted : (aligned_part r).len ≡ 0 → (t : State) × Inserts fllen s r None t × StandsFor fllen sllen (contents m0 table0) t × KeepsSpare m0 s m0 t
-  nothing_inserted none =
-      let no_chunk_left : cut (max_pool_size fllen) (aligned_part r) ≡ [] =
-      (chunks_are_cut_off_the_front fllen (aligned_part r).start (aligned_part r).len v.well_formed.rows).0 (omega arith) in
-      (s, record { answer = sym (ap (bytes_taken r.start) no_chunk_left); after = sym (ap (λ cs. with_chunks cs s) no_chunk_left) }, v, λ a from to spare_s spare_t. refl)
+  nothing_inserted none = grind (arith, chunks_are_cut_off_the_front)

@@ -14,7 +14,7 @@ use Rattle.rlsf_blocks.specs.StandsFor.{contents, StandsFor}
 use Rattle.rlsf_blocks.specs.Steps.Join.{IsMarked, IsNextOut}
 use Rattle.rlsf_blocks.specs.Steps.Touched.{at_link}
 use Rattle.rlsf_model.specs.Insert.{body}
-use Rattle.rlsf_model.specs.Join.{starts_at, end_or}
+use Rattle.rlsf_model.specs.Join.{starts_at}
 use Rattle.rlsf_model.specs.Lists.{IsIn, without}
 use Rattle.rlsf_model.specs.Remove.{lies_within, outside_of, removed, IsIdle, IsRemovable, IsWithinOrOff}
 use Rattle.rlsf_model.specs.State.{State}
@@ -80,10 +80,7 @@ module _ {fllen sllen : ℕ} {m : Space} {t : Table} {s : State} (v : StandsFor 
 
     -- where the chunk ends
     pub end_is : end_of c ≡ start + len + 32
-    end_is =
-        let room = (w.chunks c i).has_room in
-        let ends : start + len ≡ end_of (body c) = out.end ∙ ap (end_or start) found in
-        omega (arith, ends)
+    end_is = grind (arith, w, found)
 
     -- no other free block lies in the chunk
     others : (before after : List Range) → s.free ≡ before ++ (body c ∷ after) → (f : Range) → IsIn f (before ++ after) → lies_within c f ≡ false
@@ -112,25 +109,20 @@ module _ {fllen sllen : ℕ} {m : Space} {t : Table} {s : State} (v : StandsFor 
 
     left : outside_of c s.free ≡ without (starts_at start) s.free
     left =
-        let room = (w.chunks c i).has_room in
         outside_of-found c (body c) (starts_at start) s.free found (lies_within-le c (body c) (omega arith) (omega arith)) others
 
     IsRefilled-removed : IsRefilled fllen sllen m n x s s.used (outside_of c s.free) (body c)
-    IsRefilled-removed =
-        let whole = (w.free (body c) is_free).whole.start in
-        let room = (w.chunks c i).has_room in
-        record {
-          rewrites = Rewrites-weaken (λ a l. at_link l) out.rewrites;
-          first = out.rewrites.words (c.start + 8) (omega (arith, whole)) (omega (arith, (free_in_memory w (body c) is_free).0)) no_link;
-          used_still = λ u j. old_used j (λ a hu hf. used_free w u (body c) a j is_free hu hf);
-          free_still = λ f j. (
-              let (k, outside) = IsIn-outside c f s.free j in
-              old_free k (λ a hf hb.
-              let same = free_free w f (body c) a k is_free hf hb in
-              true≢false (sym (ap (lies_within c) same ∙ lies_within-le c (body c) (omega arith) (omega arith)) ∙ outside)));
-          table = subst (HasTable fllen sllen n x) (sym left) out.list.table;
-          own = v.own;
-        }
+    IsRefilled-removed = record {
+      rewrites = Rewrites-weaken (λ a l. at_link l) out.rewrites;
+      first = out.rewrites.words (c.start + 8) (omega (arith, (w.free (body c) is_free).whole.start)) (omega (arith, (free_in_memory w (body c) is_free).0)) no_link;
+      used_still = λ u j. old_used j (λ a hu hf. used_free w u (body c) a j is_free hu hf);
+      free_still = λ f j. (
+          let (k, outside) = IsIn-outside c f s.free j in
+          old_free k (λ a hf hb.
+          true≢false (sym (ap (lies_within c) (free_free w f (body c) a k is_free hf hb) ∙ lies_within-le c (body c) (omega arith) (omega arith)) ∙ outside)));
+      table = subst (HasTable fllen sllen n x) (sym left) out.list.table;
+      own = v.own;
+    }
       where
         no_link : IsLink s.free (c.start + 8) → ⊥
         no_link (f, j, inl at_word) = omega (arith, (w.free f j).whole.start, (w.free (body c) is_free).whole.start)

@@ -52,21 +52,10 @@ module _ {fllen sllen : ℕ} {m0 : Space} {t0 : Table} {s : State} (v : StandsFo
   ]
 
   pub IsIdle-span : (r : Range) (start end : ℕ) → IsSpan r start end → IsIdle s r → IsIdle s (between start end)
-  IsIdle-span r start end span idle a from to = elim (cases_lt 0 r.len) [
-    | inl some ↦ let (first, last) = span.some some in idle a (omega (arith, first)) (omega (arith, last, span.within))
-    | inr none ↦ absurd (omega (arith, span.none (omega (arith, none))))
-  ]
+  IsIdle-span r start end span idle a from to = grind (arith, cases_lt)
 
   pub removed-span : (r : Range) (start end : ℕ) → IsSpan r start end → removed (between start end) s ≡ removed r s
-  removed-span r start end span = elim (cases_lt 0 r.len) [
-    | inl some ↦
-        let (first, last) = span.some some in
-        let len : end - start ≡ r.len = omega (arith, first, last) in
-        ap (λ q. removed q s) (λ k. record { start = first k; len = len k })
-    | inr none ↦
-        let empty : r.len ≡ 0 = omega (arith, none) in
-        removed-empty (between start end) (omega (arith, span.none empty)) ∙ sym (removed-empty r empty)
-  ]
+  removed-span r start end span = grind (arith, cases_lt, removed-empty)
 
   module _ (q : Range) (row : IsRow s q) (idle : IsIdle s q) where
     -- at the beginning all chunks are there
@@ -121,10 +110,7 @@ module _ {fllen sllen : ℕ} {m0 : Space} {t0 : Table} {s : State} (v : StandsFo
       past = next_chunk.4
 
       still_there : IsIn chunk (outside_of (between q.start start) s.chunks)
-      still_there = elim (IsIn-outside_from (between q.start start) chunk s.chunks is_chunk) [
-        | inl (low, high) ↦ absurd (omega (arith, high, past, is.from))
-        | inr i ↦ i
-      ]
+      still_there = grind (arith, IsIn-outside_from, chunk, is_chunk, past)
 
       pub IsIdleChunk-next : IsIdleChunk (removed (between q.start start) s) chunk start
       IsIdleChunk-next = record { is_chunk = still_there; begins = begins; idle = λ a low high. idle a (omega (arith, low, begins, is.from)) (omega (arith, high, ends)) }
@@ -141,12 +127,11 @@ module _ {fllen sllen : ℕ} {m0 : Space} {t0 : Table} {s : State} (v : StandsFo
       removed-next : (end : ℕ) → end_of chunk ≡ end → removed chunk (removed (between q.start start) s) ≡ removed (between q.start end) s
       removed-next end at =
           let order : start ≤ end = omega (arith, at, past) in
-          let same = all_chunk end at in
           let chunks = outside_of-twice (between q.start start) (between start end) (between q.start end) s.chunks
           (λ x i. lies_within-split q.start start end x is.from order (omega (arith, (v.well_formed.chunks x i).has_room)) (is.edge more x i)) in
           let free = outside_of-twice (between q.start start) (between start end) (between q.start end) s.free
           (λ x i. lies_within-split q.start start end x is.from order (v.well_formed.free x i).some (one_side x i)) in
-          ap (λ c. removed c (removed (between q.start start) s)) (sym same) ∙ ap₂ (λ x y. record { chunks = x; used = s.used; free = y }) chunks free
+          ap (λ c. removed c (removed (between q.start start) s)) (sym (all_chunk end at)) ∙ ap₂ (λ x y. record { chunks = x; used = s.used; free = y }) chunks free
 
       -- it was taken out
       pub IsRemovedTo-next : {n : Space} {other : Table} {end : ℕ}

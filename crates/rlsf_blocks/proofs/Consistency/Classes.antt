@@ -1,5 +1,5 @@
 -- Sizes of blocks, and the indices of their classes.
-use Rattle.std.proofs.Common.{◌≡◌, ℕ, ◌+◌, ◌<◌, ◌≤◌, Some, None, arith, sym, ◌∙◌, ap, inl, inr}
+use Rattle.std.proofs.Common.{◌≡◌, ℕ, ◌+◌, ◌<◌, ◌≤◌, Some, None, arith, sym, ◌∙◌, ap}
 use mathlib.Core.Path.{ap₂}
 use Rattle.std.proofs.lemmas.Bool.{cases_lt, cond-true, cond-false, lt-ltb, le-ltb}
 use Rattle.rlsf_base.specs.PowerOfTwo.{floor_log2}
@@ -31,12 +31,7 @@ module _ (fllen sllen size : ℕ) where
 
   -- and a size with indices has a valid class, which they name
   pub map_floor-valid : (at : ℕ × ℕ) → map_floor fllen sllen size ≡ Some at → IsValidClass fllen (class_of sllen size)
-  map_floor-valid at some = elim (cases_lt (class_of sllen size).exponent (5 + fllen)) [
-    | inl valid ↦ valid
-    | inr past ↦
-        let clash : Some at ≡ None = sym some ∙ cond-false _ (Some (indices (class_of sllen size))) None (le-ltb (class_of sllen size).exponent (5 + fllen) past) in
-        absurd (cc)
-  ]
+  map_floor-valid at some = grind (arith, cases_lt, cond-false, le-ltb)
 
   pub map_floor-some : (fl sl : ℕ) → 0 < sllen → IsSize size → map_floor fllen sllen size ≡ Some (fl, sl) → IsClassAt fllen sllen size fl sl
   map_floor-some fl sl any is some =
@@ -55,6 +50,4 @@ module _ (fllen sllen size : ℕ) where
 
 -- a size has one pair of indices
 pub IsClassAt-same : (fllen sllen size fl sl row place : ℕ) → IsClassAt fllen sllen size fl sl → IsClassAt fllen sllen size row place → (fl ≡ row) × (sl ≡ place)
-IsClassAt-same fllen sllen size fl sl row place at there =
-    let rows : 5 + fl ≡ 5 + row = sym (ap (λ c. c.exponent) at.class) ∙ ap (λ c. c.exponent) there.class in
-    (omega (arith, rows), sym (ap (λ c. c.division) at.class) ∙ ap (λ c. c.division) there.class)
+IsClassAt-same fllen sllen size fl sl row place at there = grind arith

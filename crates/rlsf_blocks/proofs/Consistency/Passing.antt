@@ -40,8 +40,7 @@ module _ {fllen sllen : ℕ} {ps : List ℕ} {m : Space} {t : Table} {r : Range}
   closed f i end (block_behind (b, j, at)) = elim (cases_lt 0 (word_at m (end_of f) % 2)) [
     | inl odd ↦ omega (arith, odd)
     | inr even ↦
-        let none : word_at m (end_of f) % 2 ≡ 0 = omega (arith, even) in
-        absurd (v.well_formed.apart f b.range i (even_free b j (ap (λ a. word_at m a % 2) at ∙ none)) (sym at))
+        absurd (v.well_formed.apart f b.range i (even_free b j (ap (λ a. word_at m a % 2) at ∙ (omega (arith, even)))) (sym at))
   ]
   closed f i end (end_behind c j at ends) = omega (arith, ap (word_at m) at, v.sizes.sentinel c j)
 
@@ -60,17 +59,11 @@ module _ {fllen sllen : ℕ} {ps : List ℕ} {m : Space} {t : Table} {r : Range}
     module _ {a : ℕ} (is : IsInChunk s c a) where
       -- where the word is a sentinel's, the chunk ends behind it
       pub ends_there : word_at m a ≡ 35 → a + 32 ≡ end_of c
-      ends_there sentinel = elim is.at [
-        | block_behind (b, j, begins) ↦ absurd (block_word v.well_formed v.sizes b j (ap (word_at m) begins ∙ sentinel))
-        | end_behind d j begins ends ↦ ends
-      ]
+      ends_there sentinel = grind (arith, block_behind, block_word, end_behind)
 
       -- where it is another one, a block begins
       block_there : word_at m a ≢ 35 → BlockBegins s a
-      block_there other = elim is.at [
-        | block_behind begins ↦ begins
-        | end_behind d j begins ends ↦ absurd (other (ap (word_at m) (sym begins) ∙ v.sizes.sentinel d j))
-      ]
+      block_there other = grind (arith, block_behind, end_behind)
 
       -- and behind it the check goes on
       pub goes_on : (end : ℕ) → end_of c ≤ end → word_at m a ≢ 35 → (stop : ℕ) × IsBlockTo fllen sllen ps m t a end stop × IsInChunk s c stop
@@ -137,13 +130,11 @@ module _ {fllen sllen : ℕ} {ps : List ℕ} {m : Space} {t : Table} {r : Range}
   legible_block b i end behind =
       let lies = block_in b i in
       let some = block-some v.well_formed b i in
-      let whole = IsWhole-block v.well_formed b i in
-      let word : IsWord m b.range.start = (omega (arith, whole.start), (omega (arith, lies.0), omega (arith, lies.1, some))) in
+      let word : IsWord m b.range.start = (omega (arith, (IsWhole-block v.well_formed b i).start), (omega (arith, lies.0), omega (arith, lies.1, some))) in
       record {
         size = readable_is m b.range.start (block-fits v.well_formed v.sizes b i) word;
         behind = λ len size is.
-            let same = len_is b i len size is in
-            let at : end_of b.range ≡ b.range.start + len = omega (arith, same) in (
+            let at : end_of b.range ≡ b.range.start + len = omega (arith, len_is b i len size is) in (
               subst (IsLegible ps m) at (legible ps m (end_of b.range) (walk-fits v.well_formed v.sizes (end_of b.range) end behind)),
               subst (λ a. IsLegible ps m (a + 8)) at (legible_is ps m (end_of b.range + 8) b.range.start (named b i) (omega (arith, lies.1, v.well_formed.addressable))),
             );

@@ -144,10 +144,7 @@ module _ {fllen sllen : ℕ} {ps : List ℕ} {m : Space} {t : Table} where
 -- chunks of a state that lie outside of a range have none of its bytes
 none_outside : (range : Range → Range) (cs : List Range) (low high a : ℕ) → ((c : Range) → IsIn c cs → (low ≤ (range c).start) × (end_of (range c) ≤ high))
     → (a < low → coverage range cs a ≡ 0) × (high ≤ a → coverage range cs a ≡ 0)
-none_outside range cs low high a inside = (
-  λ before. coverage-none range cs a (λ c i. covers-before (range c) a (omega (arith, (inside c i).0, before))),
-  λ behind. coverage-none range cs a (λ c i. covers-behind (range c) a (omega (arith, (inside c i).1, behind))),
-)
+none_outside range cs low high a inside = grind (arith, coverage-none, covers-before, covers-behind)
 
 -- what holds wherever a check is
 pub record IsBase (fllen sllen : ℕ) (m : Space) : Type 0 where
@@ -167,26 +164,7 @@ module _ {fllen sllen : ℕ} {ps : List ℕ} {m : Space} {t : Table} (g : IsBase
   pub SomeChunks-none : (start : ℕ) → SomeChunks fllen sllen ps m t start start
   SomeChunks-none start = (
     empty,
-    (
-      record {
-        well_formed = IsWellFormed-from (record {
-          rows = g.rows;
-          row_length = g.row_length;
-          addressable = g.addressable;
-          chunks = λ c i. absurd i;
-          used = λ u i. absurd i;
-          whole = λ f i. absurd i;
-          disjoint = λ a. omega arith;
-          tiled = λ a. omega arith;
-          apart = λ f h i j. absurd i;
-        });
-        row = λ a low high. absurd (omega (arith, low, high));
-        sizes = record { used = λ u i. absurd i; free = λ f i. absurd i; sentinel = λ c i. absurd i };
-        previous = record { used = λ u i. absurd i; free = λ f i. absurd i; first = λ c i. absurd i };
-        linked = λ f i. absurd i;
-      },
-      λ c i. absurd i,
-    ),
+    (grind (arith, IsWellFormed-from)),
   )
 
   -- the blocks of a chunk and its sentinel
@@ -195,14 +173,7 @@ module _ {fllen sllen : ℕ} {ps : List ℕ} {m : Space} {t : Table} (g : IsBase
       → word_at m (start + 8) ≡ 0 → word_at m stop ≡ 35 → SomePart fllen sllen ps m t start stop → SomeChunks fllen sllen ps m t start (stop + 32)
   SomeChunks-one start stop from to whole whole_stop some valid first sentinel (us, fs, p) =
       let c = between start (stop + 32) in
-      let len : stop - start ≡ c.len - 32 = omega (arith, some) in
-      let last : stop ≡ (last_bytes c).start = omega (arith, some) in
-      let is_chunk : IsChunk fllen sllen (range_of m) c = record {
-        whole = record { start = whole; len = omega (arith, whole, whole_stop, some) };
-        lies_in = (from, omega (arith, to, some));
-        has_room = omega (arith, whole, whole_stop, some);
-        valid = subst (λ n. IsValidClass fllen (class_of sllen n)) len valid;
-      } in (
+      let is_chunk : IsChunk fllen sllen (range_of m) c = (grind arith) in (
         record { chunks = c ∷ []; used = us; free = fs },
         (
           record {
@@ -218,7 +189,7 @@ module _ {fllen sllen : ℕ} {ps : List ℕ} {m : Space} {t : Table} (g : IsBase
                 arith,
                 p.tiled a,
                 covers-split start stop (stop + 32) a (omega (arith, some)) (omega arith) c (between start stop) (last_bytes c) refl (omega (arith, some)) refl
-                    (omega (arith, some)) (sym last) (omega (arith, some)),
+                    (omega (arith, some)) (sym (omega (arith, some))) (omega (arith, some)),
               );
               apart = p.apart;
             });

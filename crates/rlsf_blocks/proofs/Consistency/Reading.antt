@@ -1,5 +1,5 @@
 -- Words that may be read: each word of the pools is here, or the words have the values that a layout gives them.
-use Rattle.std.proofs.Common.{◌≡◌, ◌≢◌, ℕ, ◌+◌, ◌^◌, ◌<◌, List, arith, inl, inr}
+use Rattle.std.proofs.Common.{◌≡◌, ◌≢◌, ℕ, ◌+◌, ◌^◌, ◌<◌, List, arith}
 use Rattle.std.proofs.lemmas.Bool.{cases_eq}
 use Rattle.rlsf_base.specs.declared.memory.range.Range.{Range}
 use Rattle.rlsf_base.specs.Range.{end_of}
@@ -58,10 +58,7 @@ module _ (fllen sllen : ℕ) (ps : List ℕ) (m : Space) (t : Table) (addressabl
 
   -- a link that is 0 or leads to a word
   link_legible : (a : ℕ) → (word_at m a ≢ 0 → IsWord m (word_at m a)) → IsLegible ps m a
-  link_legible a leads = elim (cases_eq (word_at m a) 0) [
-    | inl none ↦ legible ps m a (omega (arith, none))
-    | inr some ↦ legible ps m a (omega (arith, (leads some).1.1, addressable))
-  ]
+  link_legible a leads = grind (arith, cases_eq, legible)
 
   pub HasLegibleLinks-linked : (f : Range) → f.start < 2 ^ 64 → IsLinked fllen sllen ps m t f → HasLegibleLinks ps m f.start
   HasLegibleLinks-linked f small is = record {

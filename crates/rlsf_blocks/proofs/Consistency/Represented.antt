@@ -48,9 +48,8 @@ module _ {fllen sllen : ℕ} (ps : List ℕ) {m : Space} {t : Table} {s : State}
   free_size : (f : Range) → IsIn f s.free → HasFreeSize ps m f.start
   free_size f i =
       let is = v.well_formed.free f i in
-      let word = word_in f i 0 (omega arith) (omega arith) in
       let at : f.start + 0 ≡ f.start = omega arith in (
-        subst (IsPoolWord ps m) at word,
+        subst (IsPoolWord ps m) at (word_in f i 0 (omega arith) (omega arith)),
         omega (arith, v.sizes.free f i, (free_in_memory v.well_formed f i).1, v.well_formed.addressable),
         subst IsSize (sym (v.sizes.free f i)) (is.some, is.whole.len),
       )
@@ -92,19 +91,10 @@ module _ {fllen sllen : ℕ} (ps : List ℕ) {m : Space} {t : Table} {s : State}
         has_head m 0 (of_class sllen fl sl s.free) (head_at t fl sl) (v.table.lists.links fl sl row place) some_in f (IsIn-of_class_from sllen fl sl f s.free i has)
 
     block_from : head_at t fl sl ≢ 0 → (f : Range) × IsIn f s.free × (class_of sllen f.len ≡ class_at fl sl)
-    block_from some =
-        let (f, i, at, first) = head_of m (of_class sllen fl sl s.free) (head_at t fl sl) (v.table.lists.links fl sl row place) some in
-        let (j, class) = of f i in (f, j, class)
+    block_from some = grind (arith, head_of, of)
 
     agrees_at : AgreesAt fllen sllen ps m t fl sl
-    agrees_at = record {
-      bit = (
-        λ set. let (f, i, has) = list_any-some (has_class sllen (class_at fl sl)) s.free (sym (v.table.bits.second fl sl row) ∙ set) in head_from f i has,
-        λ some. let (f, i, class) = block_from some in
-            v.table.bits.second fl sl row ∙ list_any-true (has_class sllen (class_at fl sl)) s.free f i (has_class-from sllen (class_at fl sl) f class),
-      );
-      head = first_of_list;
-    }
+    agrees_at = grind (arith, list_any-some, head_from, block_from, list_any-true, has_class-from, first_of_list)
 
   has_heads : HasHeads fllen sllen ps m t
   has_heads fl row = record {

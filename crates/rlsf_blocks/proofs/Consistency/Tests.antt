@@ -1,5 +1,5 @@
 -- Tests of what a loop has passed.
-use Rattle.std.proofs.Common.{◌≡◌, ◌↔◌, ℕ, ◌+◌, ◌<◌, Bool, true, false, true≢false, arith, refl, sym, ◌∙◌, inl, inr, subst}
+use Rattle.std.proofs.Common.{◌≡◌, ◌↔◌, ℕ, ◌+◌, ◌<◌, Bool, true, true≢false, arith}
 use Rattle.std.proofs.lemmas.Bool.{cases_lt}
 use mathlib.Core.Bool.{beq}
 
@@ -14,23 +14,11 @@ found_here P n after here set = (λ _. (n, omega arith, here), λ _. set)
 -- the next number doesn't
 pub found_not : (P : ℕ → Type 0) (n : ℕ) (before after : Bool) → (P n → ⊥) → after ≡ before → (before ≡ true) ↔ SomeBelow P n
     → (after ≡ true) ↔ SomeBelow P (n + 1)
-found_not P n before after none same found = (
-  λ set. let (k, below, has) = found.0 (sym same ∙ set) in (k, omega (arith, below), has),
-  λ (k, below, has). elim (cases_lt k n) [
-    | inl less ↦ same ∙ found.1 (k, less, has)
-    | inr most ↦ let is : k ≡ n = omega (arith, below, most) in absurd (none (subst P is has))
-  ],
-)
+found_not P n before after none same found = grind (arith, cases_lt)
 
 -- two tests with equal results
 pub same_tests : (a b : Bool) → beq a b ≡ true → a ≡ b
-same_tests true true same = refl
-same_tests true false same = absurd (true≢false (sym same))
-same_tests false true same = absurd (true≢false (sym same))
-same_tests false false same = refl
+same_tests h1 h2 same = grind (arith, true≢false)
 
 pub tests_same : (a b : Bool) → (a ≡ true → b ≡ true) → (b ≡ true → a ≡ true) → beq a b ≡ true
-tests_same true true to from = refl
-tests_same true false to from = absurd (true≢false (sym (to refl)))
-tests_same false true to from = absurd (true≢false (sym (from refl)))
-tests_same false false to from = refl
+tests_same h1 h2 to from = grind (arith, true≢false)

@@ -84,16 +84,10 @@ module _ (fllen sllen : ℕ) (ps : List ℕ) (m : Space) (t : Table) (r : Range)
         let lies = row_within fllen sllen ps m t (walked r) chunks (omega (arith, starts, ends, less)) in (omega (arith, lies.0, starts), omega (arith, lies.1, ends))
 
     pub HasChunks-rest : SomeLayoutFrom fllen sllen ps m t (r.len - skipped) (r.start + skipped) → HasChunks fllen sllen ps m t (walked r)
-    HasChunks-rest (s, v) =
-        let span = between (r.start + skipped) (r.start + skipped + rest) in
-        let end : end_of span ≡ r.start + skipped + rest = omega arith in
-        (s, over v (walked r) (row_same s span (walked r) starts (omega (arith, ends, end)) v.row))
+    HasChunks-rest (s, v) = grind (arith, over, row_same, starts, ends)
 
     pub rest_of : HasChunks fllen sllen ps m t (walked r) → SomeLayoutFrom fllen sllen ps m t (r.len - skipped) (r.start + skipped)
-    rest_of (s, v) =
-        let span = between (r.start + skipped) (r.start + skipped + rest) in
-        let end : end_of span ≡ r.start + skipped + rest = omega arith in
-        (s, over v span (row_same s (walked r) span (omega (arith, starts)) (omega (arith, ends, end)) v.row))
+    rest_of (s, v) = grind (arith, over, row_same, starts, ends)
 
 -- a range lies in a pool
 pub LiesInPool-at : (ps : List ℕ) (r : Range) (k : ℕ) → HasPoolAt ps k → LiesIn r (pool_at ps k).start (pool_at ps k).len → LiesInPool ps r

@@ -28,8 +28,7 @@ module _ {fllen sllen : ℕ} {m : Space} {t : Table} {s : State} (v : StandsFor 
   pub IsReadable-before : 32 ≤ align → IsReadable m (payload - 8)
   IsReadable-before wide =
       let used = v.well_formed.used u i in
-      let place = used_in_memory v.well_formed u i in
       let granule = wide_whole u.payload u.align used.power (omega arith) (IsUsed-aligned u used) in
       let after_start = IsUsed-after_start u used in
-      let bound : word_at m (payload - 8) < 2 ^ 64 = omega (arith, wide_start wide, place.1, v.well_formed.addressable, used.within) in
+      let bound : word_at m (payload - 8) < 2 ^ 64 = omega (arith, wide_start wide, (used_in_memory v.well_formed u i).1, v.well_formed.addressable, used.within) in
       front_word v u i (payload - 8) (omega (arith, granule, at)) (omega (arith, at, after_start)) (omega (arith, at, after_start)) bound

@@ -1,6 +1,6 @@
 -- What is known of words, and of free neighbours, once words were read and counted.
 use Rattle.rlsf_base.proofs.Lending.Present.{here-same}
-use Rattle.std.proofs.Common.{◌≡◌, ℕ, ◌+◌, ◌%◌, List, length, arith, ◌∙◌, ap, sym}
+use Rattle.std.proofs.Common.{◌≡◌, ℕ, ◌+◌, List, length, arith, ◌∙◌, ap, sym}
 use Rattle.rlsf_base.specs.declared.memory.range.Range.{Range}
 use Rattle.rlsf_base.specs.Space.{Space, word_range, word_at}
 use Rattle.rlsf_base.specs.OpenSpace.{IsReadable}
@@ -17,9 +17,7 @@ module _ (m n : Space) (start : n.start ≡ m.start) (bytes : n.bytes ≡ m.byte
   word_at-loaded a word is = is ∙ sym (word_at-counted m n start bytes out a)
 
   pub IsMarked-loaded : {free : List Range} {a : ℕ} → IsMarked m free a → IsMarked n free a
-  IsMarked-loaded {a = a} marked =
-      let same = ap (λ w. w % 2) (word_at-counted m n start bytes out a) in
-      record { word = IsReadable-loaded marked.word; mark = (λ even. marked.mark.0 (sym same ∙ even), λ begins. same ∙ marked.mark.1 begins) }
+  IsMarked-loaded {a = a} marked = grind (arith, word_at-counted, IsReadable-loaded)
 
   -- a block was taken out after that
   pub IsNextOut-loaded : {fllen sllen : ℕ} {o : Space} {t : Table} {free : List Range} {a len : ℕ} → IsNextOut fllen sllen n o t free a len

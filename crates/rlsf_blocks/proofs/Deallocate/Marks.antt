@@ -69,8 +69,6 @@ module _ {fllen sllen : ℕ} {m : Space} {t : Table} {s : State} (v : StandsFor 
       let chunk = v.well_formed.chunks c i in
       let word : word_at m a ≡ 35 = subst (λ b. word_at m b ≡ 35) at (v.sizes.sentinel c i) in
       let own = own-word m (last_bytes c) a (here_last v c i) (omega (arith, at)) (omega (arith, at, chunk.has_room)) in
-      let inside = chunk.lies_in in
-      let room = chunk.has_room in
       record {
         word = is_word m a (omega (arith, at, chunk.whole.start, chunk.whole.len), (omega (arith, at), omega (arith, at)), own) (omega (arith, word));
         mark = (λ even. absurd (omega (arith, word, even)), λ begins. absurd (last_begins c i a at begins));
@@ -190,9 +188,7 @@ module _ {fllen sllen : ℕ} {m : Space} {t : Table} {s : State} (v : StandsFor 
     -- and was taken out, if it is free
     pub previous_out : {n : Space} {x : Table} {len start : ℕ} → previous ≢ 0 → IsNextOut fllen sllen m n x s.free previous len → start ≡ b - len
         → IsPreviousOut fllen sllen m n x s.free b start
-    previous_out {n} {x} some out from =
-        let is = length_before some out.end in
-        record { rewrites = out.rewrites; list = subst (IsFreeTable fllen sllen n x) is.left out.list; begins = from ∙ is.begins }
+    previous_out {n} {x} some out from = grind (arith, length_before)
 
   -- ---- the block behind
 

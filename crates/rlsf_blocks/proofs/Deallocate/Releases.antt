@@ -67,9 +67,7 @@ module _ {fllen sllen : ℕ} {m : Space} {t : Table} {s : State} (v : StandsFor 
   pub behind_at : {m1 m2 : Space} {x : Table} {block end next : ℕ} → u.block.start ≡ block → end_of u.block ≡ end
       → IsNextOut fllen sllen m1 m2 x (without (ends_at block) s.free) end next
       → IsNextOut fllen sllen m1 m2 x (without (ends_at u.block.start) s.free) (end_of u.block) next
-  behind_at {m1} {m2} {x} {block} {end} {next} at is out =
-      subst (λ b. IsNextOut fllen sllen m1 m2 x (without (ends_at b) s.free) (end_of u.block) next) (sym at)
-      (subst (λ e. IsNextOut fllen sllen m1 m2 x (without (ends_at block) s.free) e next) (sym is) out)
+  behind_at {m1} {m2} {x} {block} {end} {next} at is out = grind arith
 
   -- the free blocks before it and behind it were taken out
   module _ {m1 m2 : Space} {t1 t2 : Table} {start next : ℕ} (before : IsPreviousOut fllen sllen m m1 t1 s.free u.block.start start)
@@ -96,17 +94,16 @@ module _ {fllen sllen : ℕ} {m : Space} {t : Table} {s : State} (v : StandsFor 
 
     pub IsInnerRoom-union : IsOwned m (usable u) → IsInnerRoom fllen sllen m2 t2 (untouched u.block s.free) (union u.block s.free)
     IsInnerRoom-union own =
-        let is = is_free in
         let place = free_in_memory t_well_formed (union u.block s.free) (inl refl) in
         let moved = gone in
         record {
           room = record {
             list = behind.list;
-            block = is;
+            block = is_free;
             placed = record {
               some = omega (arith, v.nonzero, place.0);
-              whole = is.whole.start;
-              room = omega (arith, is.some, is.whole.len);
+              whole = is_free.whole.start;
+              room = omega (arith, is_free.some, is_free.whole.len);
               lies_in = (omega (arith, place.0, moved.start), omega (arith, place.1, moved.start, moved.length));
               own = own-there m m2 (union u.block s.free) (omega arith) moved.own (here_free-in m t_well_formed (here_released v u i own) (union u.block s.free) (inl refl));
             };
@@ -122,12 +119,11 @@ module _ {fllen sllen : ℕ} {m : Space} {t : Table} {s : State} (v : StandsFor 
     module _ {n : Space} {x : Table} (put : IsNewFreeBlock fllen sllen m2 n x (untouched u.block s.free) (union u.block s.free)) where
       pub IsRefilled-released : IsOwned m (usable u) → IsRefilled fllen sllen m n x s (others u.payload s.used) (join u.block s.free) (union u.block s.free)
       IsRefilled-released own =
-          let is = is_free in
           let place = free_in_memory t_well_formed (union u.block s.free) (inl refl) in
           record {
             rewrites = Rewrites-weaken (Touched-joined was_free) (Rewrites-trans gone put.rewrites);
             first = put.first ∙ before_links s.free (λ f j. (v.well_formed.free f j).whole.start) gone ((union u.block s.free).start + 8)
-                (inr (omega (arith, is.whole.start))) (omega (arith, place.0));
+                (inr (omega (arith, is_free.whole.start))) (omega (arith, place.0));
             used_still = λ y j. old_used (IsIn-others u.payload y s.used j).0 (λ a hy hu. used_free t_well_formed y (union u.block s.free) a j (inl refl) hy hu);
             free_still = still;
             table = put.table;

@@ -1,5 +1,5 @@
 -- A block is taken out of the table, if it is free.
-use Rattle.std.proofs.Common.{◌≡◌, ◌≢◌, ◌↔◌, ℕ, ◌%◌, Bool, false, true≢false, IsTrue, List, ◌∷◌, ◌++◌, arith, sym, ◌∙◌, ap, subst}
+use Rattle.std.proofs.Common.{◌≡◌, ◌↔◌, ℕ, ◌%◌, Bool, false, true≢false, IsTrue, List, ◌∷◌, ◌++◌, arith, sym, ◌∙◌, ap, subst}
 use Rattle.rlsf_base.specs.declared.memory.range.Range.{Range}
 use Rattle.rlsf_base.specs.Space.{Space, word_at}
 use Rattle.rlsf_table.specs.Rewrites.{IsLink, Rewrites}
@@ -16,16 +16,12 @@ use Rattle.rlsf_model.proofs.Coverage.{without-none}
 
 -- a size word whose block isn't free is odd
 pub odd_from : (size : ℕ) {free : Bool} → (IsTrue free ↔ (size % 2 ≡ 0)) → free ≡ false → size % 2 ≡ 1
-odd_from size is used =
-    let some : size % 2 ≢ 0 = λ even. true≢false (sym (is.1 even) ∙ used) in
-    omega (arith, some)
+odd_from size is used = grind (arith, true≢false)
 
 module _ {fllen sllen : ℕ} {m : Space} {t : Table} {block : ℕ} {free : List Range} (list : IsFreeTable fllen sllen m t free) (marked : IsMarked m free block) where
   -- the free block that begins there
   pub block_there : {len : ℕ} → len ≡ word_at m block → len % 2 ≡ 0 → (r : Range) × (IsIn r free) × (r.start ≡ block) × (r.len ≡ len)
-  block_there {len} is even =
-      let (f, i, at) = marked.mark.0 (ap (λ w. w % 2) (sym is) ∙ even) in
-      (f, i, at, sym (list.sizes f i) ∙ ap (word_at m) at ∙ sym is)
+  block_there {len} is even = grind arith
 
   -- it was unlinked
   pub IsNextOut-unlinked : {n : Space} {u : Table} {len : ℕ} → len ≡ word_at m block → len % 2 ≡ 0

@@ -1,5 +1,5 @@
 -- What an append does, by the greatest length of a chunk.
-use Rattle.std.proofs.Common.{◌≡◌, ℕ, zero, suc, ◌+◌, ◌*◌, ◌/◌, ◌^◌, ◌<◌, true, false, List, [], ◌∷◌, length, Option, Some, None, find}
+use Rattle.std.proofs.Common.{◌≡◌, ℕ, ◌+◌, ◌*◌, ◌/◌, ◌^◌, ◌<◌, true, false, List, [], ◌∷◌, length, Option, Some, None, find}
 use Rattle.std.proofs.Common.{true≢false, arith, refl, sym, ◌∙◌, ap, subst, inl, inr}
 use Rattle.std.proofs.lemmas.Bool.{eq-eqb, eqb-true}
 use Rattle.std.specs.Option.{is_some}
@@ -9,7 +9,7 @@ use Rattle.rlsf_base.specs.Range.{end_of}
 use Rattle.rlsf_base.specs.Sizes.{max_pool_size}
 use Rattle.rlsf_base.specs.Space.{Space}
 use Rattle.rlsf_table.specs.Counts.{Costs}
-use Rattle.rlsf_model.specs.Insert.{aligned_part, appended, appended_bytes, bytes_taken, cut, extended, grown, grown_if, total_length, with_chunks, Appends, Inserts, IsNext}
+use Rattle.rlsf_model.specs.Insert.{aligned_part, appended, appended_bytes, bytes_taken, cut, extended, grown, total_length, Appends, Inserts, IsNext}
 use Rattle.rlsf_model.specs.Join.{ends_at}
 use Rattle.rlsf_model.specs.State.{State}
 use Rattle.rlsf_model.proofs.Coverage.{find-none, find-some}
@@ -48,12 +48,7 @@ bytes_taken-total at (c ∷ cs) = refl
 -- where chunks have a greatest length, an append is an insertion
 pub Appends-inserted : (fllen most : ℕ) (s : State) (r : Range) (reply : Option ℕ) (number : ℕ) (t : State) → max_pool_size fllen ≡ Some most → number ≡ or_zero reply
     → Inserts fllen s r reply t → Appends fllen s r number t
-Appends-inserted fllen most s r reply number t limited same step =
-    let of = aligned_part r in
-    let answer : number ≡ total_length r.start (cut (Some most) of) =
-    same ∙ ap or_zero step.answer ∙ bytes_taken-total r.start (cut (max_pool_size fllen) of) ∙ ap (λ o. total_length r.start (cut o of)) limited in
-    let after : t ≡ appended (Some most) r s = step.after ∙ ap (λ o. with_chunks (cut o of) s) limited in
-    record { answer = answer ∙ ap (λ o. appended_bytes o r) (sym limited); after = after ∙ ap (λ o. appended o r s) (sym limited) }
+Appends-inserted fllen most s r reply number t limited same step = grind (arith, bytes_taken-total)
 
 -- ---- a longer chunk
 
@@ -83,10 +78,4 @@ module _ (fllen : ℕ) (s : State) (r : Range) (unlimited : max_pool_size fllen 
 
   pub Appends-grown : {memory : Range} (len : ℕ) (c : Range) → len ≡ r.len / 32 * 32 → IsExtensible fllen memory s c len → end_of c ≡ r.start
       → Appends fllen s r len (grown c len s)
-  Appends-grown len c whole is ends =
-      let found : find (ends_at r.start) s.chunks ≡ Some c = subst (λ a. find (ends_at a) s.chunks ≡ Some c) ends is.found in
-      grows len (grown c len s) whole (by_length len is.some found ∙ ap (λ n. extended r.start n s) whole)
-    where
-      by_length : (n : ℕ) → 0 < n → find (ends_at r.start) s.chunks ≡ Some c → grown c n s ≡ extended r.start n s
-      by_length zero some found = absurd (omega arith)
-      by_length (suc n) some found = ap (λ o. grown_if o (suc n) s) (sym found)
+  Appends-grown len c whole is ends = grind (arith, grows)

@@ -157,12 +157,7 @@ module _ {fllen sllen : ℕ} {m : Space} {table : Table} {s : State} (v : Stands
         ∙ reads_of writes.two
 
     stays : word_at n (sentinel_of c + 8) ≡ word_at m (sentinel_of c + 8)
-    stays = written.words (sentinel_of c + 8) (omega (arith, placed.start, placed.length)) (omega (arith, placed.from, placed.room)) apart
-      where
-        apart : (((sentinel_of c + 8 ≡ sentinel_of c) ⊎ (sentinel_of c + 8 ≡ sentinel_of c + len)) ⊎ (sentinel_of c + 8 ≡ sentinel_of c + len + 8)) → ⊥
-        apart (inl (inl at)) = omega arith
-        apart (inl (inr at)) = omega (arith, placed.some)
-        apart (inr at) = omega (arith, placed.some)
+    stays = grind (arith, written, placed, some)
 
     -- ---- what lies outside the hole
 
@@ -193,8 +188,6 @@ module _ {fllen sllen : ℕ} {m : Space} {table : Table} {s : State} (v : Stands
 
     long : length (more_bytes n c len) ≡ len - 16
     long =
-        let room = placed.room in
-        let more = placed.some in
         length-bytes_in n (between (end_of c - 16) (end_of (range_at (end_of c - 32) len)))
         (omega (arith, placed.from, written.start), omega (arith, placed.to, written.start, written.length)) ∙ omega arith
 

@@ -1,5 +1,5 @@
 -- The state in which what a chunk has more is a used block: it is well-formed, and the chunk has grown once the block is released.
-use Rattle.std.proofs.Common.{◌≡◌, ◌≢◌, ℕ, ◌+◌, ◌-◌, ◌^◌, ◌<◌, ◌≤◌, cond, not, List, ◌∷◌, length, arith, refl, sym, ◌∙◌, ap, subst, inl, inr}
+use Rattle.std.proofs.Common.{◌≡◌, ◌≢◌, ℕ, ◌+◌, ◌-◌, ◌^◌, ◌<◌, ◌≤◌, not, List, length, arith, refl, sym, subst, inl, inr}
 use Rattle.std.proofs.lemmas.Bool.{eq-eqb}
 use Rattle.std.proofs.Math.Pow.{pow_mono}
 use Rattle.rlsf_base.specs.declared.memory.range.Range.{Range}
@@ -7,10 +7,10 @@ use Rattle.rlsf_base.specs.Range.{end_of, range_at}
 use Rattle.rlsf_base.proofs.SizeClasses.Reach.{IsValidClass-class_of}
 use Rattle.rlsf_base.proofs.SizeMaps.PoolSizes.{max_pool_size-none}
 use Rattle.rlsf_model.specs.Insert.{grown}
-use Rattle.rlsf_model.specs.Join.{ends_at, join}
-use Rattle.rlsf_model.specs.Lists.{IsIn, without}
+use Rattle.rlsf_model.specs.Join.{ends_at}
+use Rattle.rlsf_model.specs.Lists.{IsIn}
 use Rattle.rlsf_model.specs.Release.{released}
-use Rattle.rlsf_model.specs.State.{State, Used, others}
+use Rattle.rlsf_model.specs.State.{State, Used}
 use Rattle.rlsf_model.specs.WellFormed.{covers, coverage, itself, last_bytes, IsChunk, IsUsed, IsWellFormed}
 use Rattle.rlsf_model.proofs.Coverage.{inside, before, behind, where_is, covers-inside, covers-split, coverage-IsIn, coverage-without, find-some, IsIn-without}
 use Rattle.rlsf_model.proofs.Payloads.{others-none, IsUsed-after_start}
@@ -43,17 +43,7 @@ module _ {fllen sllen : ℕ} {memory : Range} {s : State} (w : IsWellFormed flle
     IsUsed-more : IsUsed (more_block c len bytes)
     IsUsed-more =
         let chunk = w.chunks c is_chunk in
-        let room = chunk.has_room in
-        let whole = chunk.whole in
-        let some = is.some in
-        let granules = is.whole in
-        record {
-          whole = record { start = omega (arith, whole.start, whole.len); len = granules };
-          power = refl;
-          placed = omega arith;
-          within = omega arith;
-          bytes = omega (arith, long);
-        }
+        (grind arith)
 
     pub IsWellFormed-lengthened : IsWellFormed fllen sllen memory (lengthened c len bytes s)
     IsWellFormed-lengthened =
@@ -74,11 +64,7 @@ module _ {fllen sllen : ℕ} {memory : Range} {s : State} (w : IsWellFormed flle
         let span_new =
         λ (a : ℕ). covers-split (end_of c - 32) (end_of c' - 32) (end_of c + len) a (omega arith) (omega arith) span more (last_bytes c') refl (omega arith) refl
         (omega arith) refl (omega arith) in
-        let clear : (a : ℕ) → covers added a + coverage itself s.chunks a ≤ 1 = λ a. elim (where_is added a) [
-          | inside one low high ↦ omega (arith, is.fresh.apart a (omega arith) (omega arith))
-          | before none low ↦ omega (arith, w.disjoint a)
-          | behind none high ↦ omega (arith, w.disjoint a)
-        ] in
+        let clear : (a : ℕ) → covers added a + coverage itself s.chunks a ≤ 1 = λ a. (grind (arith, where_is, inside, before, behind)) in
         IsWellFormed-from (record {
           rows = w.rows;
           row_length = w.row_length;
@@ -107,9 +93,4 @@ module _ {fllen sllen : ℕ} {memory : Range} {s : State} (w : IsWellFormed flle
 
     -- once the block is released, the chunk has grown
     pub released-lengthened : released (lengthened c len bytes s) (more_block c len bytes) ≡ grown c len s
-    released-lengthened =
-        let v = more_block c len bytes in
-        let first : others v.payload (v ∷ s.used) ≡ others v.payload s.used =
-        ap (λ b. cond (not b) (v ∷ others v.payload s.used) (others v.payload s.used)) (eq-eqb v.payload v.payload refl) in
-        ap (λ us. record { chunks = range_at c.start (c.len + len) ∷ without (ends_at (end_of c)) s.chunks; used = us; free = join (range_at (end_of c - 32) len) s.free })
-        (first ∙ others-none v.payload s.used payload_apart)
+    released-lengthened = grind (arith, not, eq-eqb, others-none, payload_apart)

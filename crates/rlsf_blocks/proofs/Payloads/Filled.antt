@@ -52,12 +52,10 @@ module _ {fllen sllen : ℕ} {v : Contents} {s : State} (old : StandsFor fllen s
   bytes_in-other : (x : Used) → IsIn x s.used → x.payload ≢ addr → bytes_in n (usable x) ≡ x.bytes
   bytes_in-other x i other =
       let mine = w.used x i in
-      let deep = IsUsed-after_start x mine in
-      let after_start = IsUsed-after_start u is in
       let apart = sides x.block u.block (IsUsed-some x mine) (IsUsed-some u is) (λ a hx hu. other (ap (λ y. y.payload) (used_used w x u a i holds.0 hx hu) ∙ holds.1)) in
       same.bytes (usable x) (omega (arith, (used_in_memory w x i).0)) (elim apart [
-        | inl before ↦ inl (omega (arith, before, after_start, mine.within))
-        | inr behind ↦ inr (omega (arith, behind, deep, is.within))
+        | inl before ↦ inl (omega (arith, before, IsUsed-after_start u is, mine.within))
+        | inr behind ↦ inr (omega (arith, behind, IsUsed-after_start x mine, is.within))
       ]) ∙ old.payloads.bytes x i
 
   -- the state with the bytes that are there now in this payload is that with the bytes that are there in all payloads

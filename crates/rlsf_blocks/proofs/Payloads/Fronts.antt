@@ -22,9 +22,8 @@ front-splice xs ys i k n room full within =
     let front : length (take i xs) ≡ i = length-take-le i xs (omega arith) in
     let rest = drop (i + k) xs in
     let parts : n ≡ length ys + (n - k) = omega arith in
-    let split : n ≡ k + (n - k) = omega arith in
     let behind : drop k (take n (drop i xs)) ≡ take (n - k) rest =
-    ap (λ e. drop k (take e (drop i xs))) split ∙ drop-take k (n - k) (drop i xs) ∙ ap (take (n - k)) (drop-drop k i xs) in
+    ap (λ e. drop k (take e (drop i xs))) (omega arith) ∙ drop-take k (n - k) (drop i xs) ∙ ap (take (n - k)) (drop-drop k i xs) in
     ap (take n) (drop_at (take i xs) (ys ++ rest) i front) ∙ ap (λ e. take e (ys ++ rest)) parts ∙ take-append-add ys rest (n - k) ∙ ap (λ zs. ys ++ zs) (sym behind)
 
 module _ {fllen sllen : ℕ} {v : Contents} {s : State} (old : StandsFor fllen sllen v s) (len : ℕ) where
@@ -44,9 +43,7 @@ module _ {fllen sllen : ℕ} {v : Contents} {s : State} (old : StandsFor fllen s
     full = length-take-le len u.bytes (omega (arith, (old.well_formed.used u source.0).bytes, enough))
 
     bytes_in-front : bytes_in m (range_at from len) ≡ front
-    bytes_in-front =
-        ap (λ a. take len (drop (a - m.start) m.bytes)) (sym source.1) ∙ sym (take-take len (usable u).len (drop (u.payload - m.start) m.bytes) enough)
-        ∙ ap (take len) (old.payloads.bytes u source.0)
+    bytes_in-front = grind (arith, take-take)
 
     spliced : n.bytes ≡ splice m.bytes (to - m.start) (to - m.start + len) front
     spliced = copied ∙ ap (with_bytes m to) bytes_in-front ∙ ap (λ k. splice m.bytes (to - m.start) (to - m.start + k) front) full

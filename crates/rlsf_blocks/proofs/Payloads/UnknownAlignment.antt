@@ -12,6 +12,7 @@ use Rattle.rlsf_model.specs.State.{State, Used, usable, Holds}
 use Rattle.rlsf_model.proofs.Payloads.{IsUsed-after_start}
 use Rattle.rlsf_blocks.specs.Laws.{WordsGiveBlock}
 use Rattle.rlsf_blocks.specs.StandsFor.{Contents, StandsFor}
+use Rattle.rlsf_blocks.specs.Steps.LiveBlock.{AtEachBlock, IsLiveIn}
 use Rattle.rlsf_blocks.proofs.Deallocate.Addresses.{IsReadable-before, narrow_start, wide_start}
 use Rattle.rlsf_blocks.proofs.RepresentedStates.Neighbours.{before_used, free_before, none_before, used_before}
 use Rattle.rlsf_blocks.proofs.Words.Apart.{used_in_memory}
@@ -107,6 +108,13 @@ pub IsPayloadOf-holds : {fllen sllen : ℕ} {v : Contents} {s : State} {m : Spac
 IsPayloadOf-holds {v = v} {m = m} {addr = addr} u same stands holds =
     subst (λ n. IsPayloadOf n addr u) same (subst (λ a. IsPayloadOf v.memory a u) holds.1 (is_payload stands u holds.0))
 
+-- and for the payload that a caller says lives, with what is known of each block of it
+pub live_payload : {m : Space} {addr : ℕ} {P : Used → Type 0} → IsLiveIn m addr → AtEachBlock m addr P → (u : Used) × IsPayloadOf m addr u × P u
+live_payload (fllen, sllen, v, s, same, stands, (u, holds)) each = (u, IsPayloadOf-holds u same stands holds, each fllen sllen v s u same stands holds)
+
+pub live_one : {m : Space} {addr : ℕ} → IsLiveIn m addr → (u : Used) × IsPayloadOf m addr u
+live_one (fllen, sllen, v, s, same, stands, (u, holds)) = (u, IsPayloadOf-holds u same stands holds)
+
 module _ {m : Space} {addr : ℕ} {u : Used} (is : IsPayloadOf m addr u) where
   -- ---- the word before the payload
 
@@ -116,43 +124,23 @@ module _ {m : Space} {addr : ℕ} {u : Used} (is : IsPayloadOf m addr u) where
 
     -- a word that isn't 0 is the address of a size word
     pub IsReadable-named : word ≢ 0 → IsReadable m word
-    IsReadable-named some = elim said [
-      | nothing none at ↦ absurd (some none)
-      | another placed before at ↦ placed
-      | its_own own ↦ subst (IsReadable m) (sym own) is.own_word
-    ]
+    IsReadable-named some = grind (arith, said)
 
     -- the end of the block there, with the flag of its size word, fits in a word
     pub fits_named : (size : ℕ) → word ≢ 0 → size ≡ word_at m word → word + size < 2 ^ 64
-    fits_named size some sized = elim said [
-      | nothing none at ↦ absurd (some none)
-      | another placed before at ↦ omega (arith, is.ends)
-      | its_own own ↦ let length : size ≡ u.block.len + 1 = sized ∙ ap (word_at m) own ∙ is.size in omega (arith, is.ends)
-    ]
+    fits_named size some sized = grind (arith, said, sized)
 
     -- no block is named
     pub begins_first : word ≡ 0 → addr - 16 ≡ u.block.start
-    begins_first none = elim said [
-      | nothing zero at ↦ omega (arith, is.at)
-      | another placed before at ↦ omega (arith, is.at)
-      | its_own own ↦ absurd (omega (arith, is.some))
-    ]
+    begins_first none = grind (arith, said)
 
     -- a block is named that ends before the payload
     pub begins_behind : (size : ℕ) → size ≡ word_at m word → word + size < addr → addr - 16 ≡ u.block.start
-    begins_behind size sized ends = elim said [
-      | nothing none at ↦ omega (arith, is.at)
-      | another placed before at ↦ omega (arith, is.at)
-      | its_own own ↦ let length : size ≡ u.block.len + 1 = sized ∙ ap (word_at m) own ∙ is.size in absurd (omega (arith, is.within))
-    ]
+    begins_behind size sized ends = grind (arith, said, sized)
 
     -- a block is named that has the payload
     pub begins_there : (size : ℕ) → word ≢ 0 → size ≡ word_at m word → addr ≤ word + size → word ≡ u.block.start
-    begins_there size some sized at_most = elim said [
-      | nothing none at ↦ absurd (some none)
-      | another placed before at ↦ absurd (omega (arith, is.at))
-      | its_own own ↦ own
-    ]
+    begins_there size some sized at_most = grind (arith, said)
 
   -- ---- the bytes from the payload to the block's end
 
@@ -166,11 +154,7 @@ module _ {m : Space} {addr : ℕ} {u : Used} (is : IsPayloadOf m addr u) where
 
     -- all bytes from the payload to the block's end, and no others
     pub usable-sized : (size : ℕ) → size ≡ word_at m block → (r : Range) → r.start ≡ addr → r.len ≡ block + (size - 1) - addr → r ≡ usable u
-    usable-sized size read r start len =
-        let long = sized size read in
-        let first : r.start ≡ u.payload = start ∙ sym is.at in
-        let rest : r.len ≡ end_of u.block - u.payload = omega (arith, is.at) in
-        λ i. record { start = first i; len = rest i }
+    usable-sized size read r start len = grind (arith, sized)
 
   -- they lie in the memory
   pub LiesIn-usable : LiesIn (usable u) m.start (length m.bytes)

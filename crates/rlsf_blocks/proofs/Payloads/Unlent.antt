@@ -91,7 +91,6 @@ module _ {fllen sllen : ℕ} {m n : Space} {t : Table} {s : State} (old : Stands
       → ((u : Used) → IsIn u s.used → Has u.block b → u.block.start ≡ b) → word_at n (b + 8) ≡ word_at m (b + 8)
   word_at-second b whole inside c k low high begins = word_at-apart (b + 8) (omega arith) c k (omega arith) (omega arith) (λ u i has.
       let is = w.used u i in
-      let first : u.block.start ≡ b = begins u i (record { from = omega (arith, has.from, is.whole.start); to = omega (arith, has.to) }) in
       omega (arith, IsUsed-after_start u is))
 
   -- ---- the words spell the state with the bytes that are there now
@@ -120,7 +119,6 @@ module _ {fllen sllen : ℕ} {m n : Space} {t : Table} {s : State} (old : Stands
   used_previous : (x : Used) → IsIn x s.used → word_at n (end_of x.block + 8) ≡ word_at m (end_of x.block + 8)
   used_previous x i =
       let is = w.used x i in
-      let some = IsUsed-after_start x is in
       let home = home_of_used w x i in
       word_at-second (end_of x.block) (omega (arith, is.whole.start, is.whole.len)) (omega (arith, (used_in_memory w x i).0)) home.chunk home.is_chunk
       (omega (arith, home.from)) (omega (arith, home.to)) (λ u j has.
@@ -228,17 +226,7 @@ module _ {fllen sllen : ℕ} {m n : Space} {t : Table} {s : State} (old : Stands
       }
 
   well_formed : IsWellFormed fllen sllen (range_of m) now
-  well_formed = record {
-    rows = w.rows;
-    row_length = w.row_length;
-    addressable = w.addressable;
-    chunks = w.chunks;
-    used = λ x i. let (u, j, same) = IsIn-map_from (with_bytes_of n) x s.used i in subst IsUsed (sym same) (IsUsed-with_bytes_of u j);
-    free = w.free;
-    disjoint = w.disjoint;
-    tiled = λ a. omega (arith, coverage-with_bytes_of n s.used a, w.tiled a);
-    apart = w.apart;
-  }
+  well_formed = grind (arith, w, IsIn-map_from, IsUsed-with_bytes_of, coverage-with_bytes_of)
 
   pub stands_beside : StandsFor fllen sllen (contents n t) now
   stands_beside =

@@ -57,13 +57,7 @@ module _ {fllen sllen : ℕ} {m : Space} {t : Table} {free : List Range} (hole :
   }
     where
       word_side : (a : ℕ) → a % 8 ≡ 0 → (IsInside hole a → ⊥) → (a + 8 ≤ to) ⊎ (to + from.len ≤ a)
-      word_side a whole other = elim (cases_lt a hole.start) [
-        | inl before ↦ inl (omega (arith, inner.room.placed.whole, copied.low))
-        | inr low ↦ elim (cases_lt (end_of hole) (a + 8)) [
-          | inl behind ↦ inr (omega (arith, inner.room.block.whole, copied.high))
-          | inr high ↦ absurd (other (low, high))
-        ]
-      ]
+      word_side a whole other = grind (arith, cases_lt, other)
 
       -- a range that none of the hole's words touches lies before the hole or behind it
       side : (r : Range) → 0 < r.len → ((a : ℕ) → IsInside hole a → (end_of r ≤ a) ⊎ (a + 8 ≤ r.start)) → (end_of r ≤ to) ⊎ (to + from.len ≤ r.start)

@@ -85,11 +85,10 @@ module _ {fllen sllen : ℕ} {memory : Range} {m : Space} {table : Table} {s t :
       let f = places.range in
       let is = w.used u i in
       let is_in = (choice-some sllen (request_size size align) s.free f places.chosen).is_in in
-      let after = payload_of-after f.start align in
       let fits = placed-fits w f size align power places.chosen in (
         usable_units w u i,
         elim (sides u.block f (IsUsed-some u is) (w.free f is_in).some (λ a hu hf. used_free w u f a i is_in hu hf)) [
-          | inl before ↦ inl (omega (arith, before, places.answer, after, is.within))
+          | inl before ↦ inl (omega (arith, before, places.answer, payload_of-after f.start align, is.within))
           | inr behind ↦ inr (omega (arith, behind, places.answer, shorter, fits, IsUsed-after_start u is))
         ],
       )
@@ -127,10 +126,7 @@ module _ {fllen sllen : ℕ} {memory : Range} {m : Space} {table : Table} {s t :
     IsSameOutside-copied = record {
       start = start;
       length = length-with m n target u.bytes LiesIn-new long start spliced;
-      bytes = λ q from side. bytes_in-with m n target u.bytes LiesIn-new long start spliced q from (elim side [
-        | inl before ↦ inl (omega (arith, before, places.answer))
-        | inr behind ↦ inr (omega (arith, behind, places.answer, shorter, payload_of-after places.range.start align))
-      ]);
+      bytes = λ q from side. bytes_in-with m n target u.bytes LiesIn-new long start spliced q from ((grind (arith, shorter, payload_of-after)));
       out = λ a inside side. out_at-copied m n (usable u) addr LiesIn-old LiesIn-new start copied_there out_there a inside (elim side [
         | inl before ↦ inl (omega (arith, before, places.answer))
         | inr behind ↦ inr (omega (arith, behind, places.answer, shorter, payload_of-after places.range.start align))

@@ -1,5 +1,5 @@
 -- Where the free block ends that begins at an address, by the word there.
-use Rattle.std.proofs.Common.{◌≡◌, ℕ, ◌+◌, ◌%◌, List, find, arith, sym, ◌∙◌, ap}
+use Rattle.std.proofs.Common.{◌≡◌, ℕ, ◌+◌, ◌%◌, List, find, arith}
 use Rattle.rlsf_base.specs.declared.memory.range.Range.{Range}
 use Rattle.rlsf_base.specs.Space.{Space, word_at}
 use Rattle.rlsf_table.specs.FreeTable.{IsFreeTable}
@@ -13,13 +13,8 @@ module _ {fllen sllen : ℕ} {m : Space} {t : Table} {block : ℕ} {free : List 
     (marked : IsMarked m free block) {size : ℕ} (is : size ≡ word_at m block) where
   -- the word is the length of a free block
   pub end_free : size % 2 ≡ 0 → block + size ≡ end_or block (find (starts_at block) free)
-  end_free even =
-      let (f, i, at, long) = block_there list marked is even in
-      let found = find-start free f block list.apart (λ g j. let p = list.placed g j in omega (arith, p.room)) i at in
-      omega (arith, at, long) ∙ sym (ap (end_or block) found)
+  end_free even = grind (arith, block_there, find-start)
 
   -- no free block begins there
   pub end_used : size % 2 ≡ 1 → block + 0 ≡ end_or block (find (starts_at block) free)
-  end_used odd =
-      let none = find-no_start free block (λ f i at. omega (arith, ap (λ w. w % 2) is, marked.mark.1 (f, i, at))) in
-      omega arith ∙ sym (ap (end_or block) none)
+  end_used odd = grind (arith, find-no_start)

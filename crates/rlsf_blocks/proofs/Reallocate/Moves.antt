@@ -1,5 +1,5 @@
 -- A used block moved into the free block before it: the value represents the planned state.
-use Rattle.std.proofs.Common.{◌≡◌, ◌≢◌, ℕ, cond, leb, ◌+◌, ◌-◌, ◌%◌, ◌≤◌, ◌<◌, ◌⊎◌, List, ◌++◌, Some, None, find, true, length, take}
+use Rattle.std.proofs.Common.{◌≡◌, ◌≢◌, ℕ, leb, ◌+◌, ◌-◌, ◌%◌, ◌≤◌, ◌<◌, ◌⊎◌, List, ◌++◌, Some, None, find, length, take}
 use Rattle.std.proofs.Common.{drop, min, arith, inl, inr, refl, sym, ◌∙◌, ap, subst}
 use mathlib.Core.Path.{ap₂}
 use Rattle.std.proofs.lemmas.Bool.{leb-false}
@@ -7,8 +7,7 @@ use Rattle.std.proofs.lemmas.List.{take-take, take_all}
 use Rattle.std.proofs.Math.Nat.{min-eq_left}
 use Rattle.rlsf_base.specs.declared.memory.range.Range.{Range}
 use Rattle.rlsf_base.specs.Range.{end_of, LiesIn, range_at}
-use Rattle.rlsf_base.specs.Out.{is_own}
-use Rattle.rlsf_base.specs.Space.{Space, bytes_in, out_at, range_of, word_at}
+use Rattle.rlsf_base.specs.Space.{Space, bytes_in, range_of, word_at}
 use Rattle.rlsf_base.specs.OpenSpace.{IsHere, IsOwned}
 use Rattle.rlsf_base.proofs.Lending.Present.{own-there}
 use Rattle.rlsf_base.proofs.Lending.Copied.{bytes_in-copied, word_at-with_bytes}
@@ -16,7 +15,7 @@ use Rattle.rlsf_model.specs.Allocate.{rest_behind}
 use Rattle.rlsf_model.specs.Join.{ends_at, start_or}
 use Rattle.rlsf_model.specs.Lists.{IsIn, without}
 use Rattle.rlsf_model.specs.Payload.{payload_of}
-use Rattle.rlsf_model.specs.Reallocate.{Keeps, Plan, in_place, moved, replanned, resized, tail_joined}
+use Rattle.rlsf_model.specs.Reallocate.{Keeps, in_place, moved, replanned}
 use Rattle.rlsf_model.specs.State.{State, Used, between, usable}
 use Rattle.rlsf_model.specs.WellFormed.{IsWellFormed}
 use Rattle.rlsf_model.proofs.Changes.{IsIn-others, IsIn-rest_behind}
@@ -45,11 +44,7 @@ use Rattle.rlsf_blocks.proofs.Words.Refilled.{Touched-joined, IsUsedStill, old_u
 
 -- a block that is too short to grow in place has fewer bytes than its payload is to have
 in_place-short : (s : State) (u : Used) (size : ℕ) → u.block.len % 32 ≡ 0 → u.block.start ≤ u.payload → in_place s u size ≡ None → end_of u.block < u.payload + size
-in_place-short s u size whole after none =
-    let plan : Plan = record { block = resized u size; payload = u.payload; free = tail_joined (resized u size) (end_of u.block) s.free } in
-    by_test (leb (end_of (resized u size)) (end_of u.block))
-    (λ fits. let some : Some plan ≡ None = sym (ap (λ b. cond b (Some plan) None) fits) ∙ none in absurd (cc))
-    (λ short. omega (arith, leb-false (end_of (resized u size)) (end_of u.block) short))
+in_place-short s u size whole after none = grind (arith, by_test, leb, none, leb-false)
 
 module _ {fllen sllen : ℕ} {m : Space} {t : Table} {s : State} (v : StandsFor fllen sllen (contents m t) s) (u : Used) (i : IsIn u s.used) (size : ℕ) (f : Range)
     (found : find (ends_at u.block.start) s.free ≡ Some f) (fits : end_of (planned s u size f).block ≤ reach s u) (short : in_place s u size ≡ None) where
@@ -71,20 +66,17 @@ module _ {fllen sllen : ℕ} {m : Space} {t : Table} {s : State} (v : StandsFor 
   span =
       let is = v.well_formed.used u i in
       let base = IsSound-free v.well_formed in
-      let left = left_of u.block.start s.free is.whole.start base in
       let right =
       right_of (end_of u.block) (without (ends_at u.block.start) s.free) (omega (arith, is.whole.start, is.whole.len)) (IsSound-without (ends_at u.block.start) s.free base) in
       let begin : start_or u.block.start (find (ends_at u.block.start) s.free) ≡ f.start = ap (start_or u.block.start) found in
-      let after = IsUsed-after_start u is in
-      let plan = sound in
-      let more = in_place-short s u size is.whole.len (omega (arith, after)) short in
+      let more = in_place-short s u size is.whole.len (omega (arith, IsUsed-after_start u is)) short in
       record {
         start = begin;
-        end = omega (arith, left.order, right.order);
-        whole = plan.whole.start;
-        granules = plan.whole.len;
+        end = omega (arith, (left_of u.block.start s.free is.whole.start base).order, right.order);
+        whole = sound.whole.start;
+        granules = sound.whole.len;
         after_start = payload_of-after f.start u.align;
-        enough = omega (arith, plan.enough, plan.within, more);
+        enough = omega (arith, sound.enough, sound.within, more);
         within = is.within;
         wide = λ w. wide_whole (payload_of f.start u.align) u.align is.power w (payload_of-aligned f.start u.align is.power);
       }
@@ -184,11 +176,9 @@ module _ {fllen sllen : ℕ} {m : Space} {t : Table} {s : State} (v : StandsFor 
       kept : bytes_in n (range_at (payload_of f.start u.align) (usable u).len) ≡ u.bytes
       kept =
           let is = span in
-          let base = from_memory in
-          let same = gone v u i before behind in
           let to = payload_of f.start u.align in
           let there = LiesIn-copied (union u.block s.free) (IsInnerRoom-union v u i before behind own) (usable u) to copied in
-          padded.rewrites.bytes (range_at to (usable u).len) (omega (arith, occupied.rewrites.start, copied.start, same.start, is.after_start))
+          padded.rewrites.bytes (range_at to (usable u).len) (omega (arith, occupied.rewrites.start, copied.start, (gone v u i before behind).start, is.after_start))
           (λ a (w, at). inr (omega (arith, is.after_start)))
           ∙ occupied.kept (range_at to (usable u).len) (omega (arith, is.start, is.after_start)) (omega (arith, is.enough))
           ∙ bytes_in-copied m2 m3 (usable u) to copied.placed there copied.start copied.bytes copied.out
@@ -277,10 +267,9 @@ module _ {fllen sllen : ℕ} {m : Space} {t : Table} {s : State} (v : StandsFor 
       pub IsCarriedOut-moved : IsCarriedOut fllen sllen (contents m t) (contents n t4) s u (planned s u size f)
       IsCarriedOut-moved =
           let is = is_free v u i in
-          let all = rewrites in
           let refilled : IsRefilled fllen sllen m n t4 s (replanned s u (planned s u size f) bytes).used (planned s u size f).free (union u.block s.free) =
-          record { rewrites = all; first = first; used_still = used_still; free_still = free_still; table = table; own = own_replanned } in
-          let same : range_of n ≡ range_of m = ap₂ (λ a l. range_at a l) all.start all.length in
+          record { rewrites = rewrites; first = first; used_still = used_still; free_still = free_still; table = table; own = own_replanned } in
+          let same : range_of n ≡ range_of m = ap₂ (λ a l. range_at a l) rewrites.start rewrites.length in
           let well_formed = subst (λ p. IsWellFormed fllen sllen p (replanned s u (planned s u size f) bytes)) (sym same) t_well_formed in (
             replanned s u (planned s u size f) bytes,
             record { bytes = bytes; answer = refl; length = long; kept = keeps; after = refl },

@@ -27,8 +27,7 @@ module _ {fllen sllen : ℕ} {memory : Range} {s : State} (w : IsWellFormed flle
     begun None found at = ((λ same. refl), λ other. absurd (other at))
     begun (Some f) found at =
         let (i, passes) = find-some (ends_at b) f s.free found in
-        let end = eqb-true (end_of f) b passes in
-        ((λ same. absurd (omega (arith, at, same, end, (w.free f i).some))), λ other. (f, refl, sym at))
+        ((λ same. absurd (omega (arith, at, same, eqb-true (end_of f) b passes, (w.free f i).some))), λ other. (f, refl, sym at))
 
     pub find-ends_at-none : start ≡ b → find (ends_at b) s.free ≡ None
     find-ends_at-none = (begun (find (ends_at b) s.free) refl is).0

@@ -1,12 +1,12 @@
 -- Which plan a used block's new size has, where its own bytes and those of a free block behind it suffice.
-use Rattle.std.proofs.Common.{◌≡◌, ◌≢◌, ℕ, ◌-◌, ◌<◌, ◌≤◌, cond, List, [], ◌∷◌, ◌++◌, Option, Some, None, find, arith, inl, inr, sym, ◌∙◌, ap}
+use Rattle.std.proofs.Common.{◌≡◌, ◌≢◌, ℕ, ◌-◌, ◌<◌, ◌≤◌, cond, ◌++◌, Some, None, find, arith, ap}
 use mathlib.Core.Path.{ap₂}
 use Rattle.std.proofs.lemmas.Bool.{cases_lt, eqb-true, le-leb, lt-leb, le-ltb, lt-ltb}
 use Rattle.rlsf_base.specs.declared.memory.range.Range.{Range}
 use Rattle.rlsf_base.specs.Range.{end_of}
 use Rattle.rlsf_model.specs.Allocate.{rest_behind}
-use Rattle.rlsf_model.specs.Join.{join, ends_at, starts_at, start_or, end_or}
-use Rattle.rlsf_model.specs.Lists.{IsIn, without}
+use Rattle.rlsf_model.specs.Join.{join, ends_at}
+use Rattle.rlsf_model.specs.Lists.{IsIn}
 use Rattle.rlsf_model.specs.Reallocate.{Plan, resized, tail_joined, in_place, into_next, or_else}
 use Rattle.rlsf_model.specs.State.{State, Used, between}
 use Rattle.rlsf_model.specs.WellFormed.{IsWellFormed}
@@ -55,27 +55,12 @@ module _ (s : State) (u : Used) (size : ℕ) where
     -- so the tail is joined with the free block behind it alone
     tail_joined-shorter : end_of (resized u size) < end_of u.block → end_of u.block ≤ reach s u
         → tail_joined (resized u size) (end_of u.block) s.free ≡ rest_behind (resized u size) (reach s u) ++ staying s u
-    tail_joined-shorter shorter order =
-        let block = resized u size in
-        let last = end_of u.block in
-        let none = none_before shorter in
-        let end : end_of (between (end_of block) last) ≡ last = omega arith in
-        let kept = without-none (ends_at (end_of block)) s.free none in
-        let with_neighbours = λ (o : Option Range) (e : ℕ) (l : List Range). between (start_or (end_of block) o) (end_or e (find (starts_at e) l)) ∷ without (starts_at e) l in
-        ap (λ b. cond b (join (between (end_of block) last) s.free) s.free) (lt-ltb (end_of block) last shorter)
-        ∙ ap (λ l. with_neighbours (find (ends_at (end_of block)) s.free) (end_of (between (end_of block) last)) l) kept
-        ∙ ap₂ (λ o e. with_neighbours o e s.free) none end
-        ∙ sym (ap (λ b. cond b (between (end_of block) (reach s u) ∷ []) [] ++ staying s u) (lt-ltb (end_of block) (reach s u) (omega arith)))
+    tail_joined-shorter shorter order = grind (arith, none_before, without-none, lt-ltb, reach, staying)
 
     -- the plan of another length
     pub or_else-stretched : end_of (resized u size) ≢ end_of u.block → end_of u.block ≤ reach s u → end_of (resized u size) ≤ reach s u
         → or_else (in_place s u size) (into_next s u size) ≡ Some (stretched s u size)
-    or_else-stretched other order fits = elim (cases_lt (end_of (resized u size)) (end_of u.block)) [
-      | inl shorter ↦
-          ap (λ o. or_else o (into_next s u size)) (in_place-fits (omega arith))
-          ∙ ap (λ l. Some (record { block = resized u size; payload = u.payload; free = l })) (tail_joined-shorter shorter order)
-      | inr long ↦ ap₂ or_else (in_place-none (omega (arith, other))) (into_next-fits fits)
-    ]
+    or_else-stretched other order fits = grind (arith, cases_lt, in_place-fits, tail_joined-shorter, in_place-none, into_next-fits)
 
     pub IsSound-stretched : end_of (resized u size) ≤ reach s u → IsSoundPlan s u size (stretched s u size)
     IsSound-stretched fits = IsSound-into_next w u i size (stretched s u size) (into_next-fits fits)

@@ -34,13 +34,7 @@ module _ {fllen sllen : ℕ} {m : Space} {table : Table} {free : List Range} {bl
   -- the size word was written
   pub sized_from : {m1 : Space} → m1.start ≡ m.start → m1.bytes ≡ with_word m block (taken + 1) → m1.out ≡ out_with m (word_range block)
       → IsWrite m m1 block (taken + 1)
-  sized_from same written out =
-      let inside = inner.lies_in in
-      let addressable = inner.list.addressable in
-      let can =
-      IsWritable-in (placed_here m) (range_at span.start 16) (omega arith, omega (arith, inner.room)) inner.front block (omega (arith, inner.block.whole.start))
-      (omega (arith, start)) (omega (arith, start)) in
-      write can same written (omega (arith, inner.room, inner.some, part.2)) out
+  sized_from same written out = grind (arith, IsWritable-in, placed_here, write)
 
   -- no free block has an address of the span
   apart : (g : Range) → IsIn g free → (a : ℕ) → Has span a → Has g a → ⊥
@@ -48,9 +42,7 @@ module _ {fllen sllen : ℕ} {m : Space} {table : Table} {free : List Range} {bl
 
   begins_elsewhere : (g : Range) → IsIn g free → g.start ≢ block
   begins_elsewhere g i same =
-      let placed = inner in
-      let other = inner.list.placed g i in
-      apart g i block (record { from = omega arith; to = omega (arith, placed.room) }) (record { from = omega arith; to = omega (arith, other.room) })
+      apart g i block (record { from = omega arith; to = omega (arith, inner.room) }) (record { from = omega arith; to = omega (arith, (inner.list.placed g i).room) })
 
   -- a link lies on one side of any part of the span
   link_side : (a : ℕ) → IsLink free a → (q : Range) → span.start ≤ q.start → end_of q ≤ end_of span → (end_of q ≤ a) ⊎ (a + 8 ≤ q.start)
@@ -64,10 +56,7 @@ module _ {fllen sllen : ℕ} {m : Space} {table : Table} {free : List Range} {bl
 
   module _ {m1 : Space} (sized : IsWrite m m1 block (taken + 1)) where
     unlinked : (g : Range) → IsIn g free → ¬ (g.start ≡ block) × ¬ (g.start + 16 ≡ block) × ¬ (g.start + 24 ≡ block)
-    unlinked g i =
-        let placed = inner.list.placed g i in
-        let mine = inner in
-        (begins_elsewhere g i, (λ e. omega (arith, placed.whole, mine.block.whole.start)), (λ e. omega (arith, placed.whole, mine.block.whole.start)))
+    unlinked g i = grind (arith, begins_elsewhere)
 
     -- ---- a rest is left
 
@@ -77,10 +66,8 @@ module _ {fllen sllen : ℕ} {m : Space} {table : Table} {free : List Range} {bl
     pub IsOccupied-rest : {n : Space} {changed : Table} → taken < total → IsFreeBlockBehind fllen sllen m1 n changed free block (rest_of block taken span)
         → IsOccupied fllen sllen m n changed free span (range_at block taken)
     IsOccupied-rest {n} {changed} short left =
-        let is = inner.block in
         let inside = inner.lies_in in
         let moved = rewrites_of sized in
-        let whole = is.whole.start in
         let some : rest_behind (range_at block taken) (end_of span) ≡ rest_of block taken span ∷ [] =
         ap (λ b. cond b (rest_of block taken span ∷ []) []) (lt-ltb (end_of (range_at block taken)) (end_of span) (omega arith)) in
         record {
@@ -125,24 +112,17 @@ module _ {fllen sllen : ℕ} {m : Space} {table : Table} {free : List Range} {bl
     pub named_from : {n : Space} → n.start ≡ m1.start → n.bytes ≡ with_word m1 (block + total + 8) block → n.out ≡ out_with m1 (word_range (block + total + 8))
         → IsWrite m1 n (block + total + 8) block
     named_from same written out =
-        let whole = inner.block.whole in
-        let inside = inner.lies_in in
-        let addressable = inner.list.addressable in
         let can =
         IsWritable-in (placed_by (rewrites_of sized)) (range_at (end_of span) 16) (omega arith, inner.not_last) inner.behind (block + total + 8)
-        (omega (arith, whole.start, whole.len)) (omega arith) (omega arith) in
+        (omega (arith, inner.block.whole.start, inner.block.whole.len)) (omega arith) (omega arith) in
         write can same written (omega arith) out
 
     module _ {n : Space} (all : total ≤ taken) (named : IsWrite m1 n (block + total + 8) block) where
       pub IsOccupied-whole_span : IsOccupied fllen sllen m n table free span (range_at block taken)
       IsOccupied-whole_span =
-          let is = inner.block in
           let inside = inner.lies_in in
           let moved = rewrites_of sized in
           let last = rewrites_of named in
-          let whole = is.whole.start in
-          let room = inner.room in
-          let end : end_of (range_at block taken) + 8 ≡ block + total + 8 = omega (arith, part.2) in
           let none : rest_behind (range_at block taken) (end_of span) ≡ [] =
           ap (λ b. cond b (rest_of block taken span ∷ []) []) (le-ltb (end_of (range_at block taken)) (end_of span) (omega arith)) in
           record {
@@ -150,7 +130,7 @@ module _ {fllen sllen : ℕ} {m : Space} {table : Table} {free : List Range} {bl
             size = last.words span.start (omega arith) (omega (arith, moved.start, inside.0)) (λ e. omega arith) ∙ ap (word_at m1) start ∙ reads_of sized;
             first = last.words (span.start + 8) (omega arith) (omega (arith, moved.start, inside.0)) (λ e. omega arith)
                 ∙ moved.words (span.start + 8) (omega arith) (omega (arith, inside.0)) (λ e. omega arith);
-            behind = ap (word_at n) end ∙ reads_of named ∙ sym start;
+            behind = ap (word_at n) (omega (arith, part.2)) ∙ reads_of named ∙ sym start;
             rest = λ g i. absurd (subst (λ l. IsIn g l) none i);
             kept =
                 λ q from to. last.bytes q (omega (arith, moved.start, inside.0)) (λ a at. inl (omega arith))
@@ -163,10 +143,4 @@ module _ {fllen sllen : ℕ} {m : Space} {table : Table} {free : List Range} {bl
           joined a (inr at) = at_other (omega arith)
 
           other : (g : Range) → IsIn g free → ¬ (g.start ≡ block + total + 8) × ¬ (g.start + 16 ≡ block + total + 8) × ¬ (g.start + 24 ≡ block + total + 8)
-          other g i =
-              let placed = inner.list.placed g i in
-              let whole = inner.block.whole in (
-                (λ e. omega (arith, placed.whole, whole.start, whole.len)),
-                (λ e. omega (arith, placed.whole, whole.start, whole.len)),
-                (λ e. omega (arith, placed.whole, whole.start, whole.len)),
-              )
+          other g i = grind arith

@@ -28,8 +28,7 @@ payload_of-order a b align power order =
     let some = IsPowerOfTwo-positive align power in
     let p = payload_of b align in
     let multiple : p / align * align ≡ p = omega (arith, div-add-mod' p align, next_multiple_of-multiple (b + 16) align some) in
-    let reached : a + 16 ≤ p / align * align = omega (arith, payload_of-after b align) in
-    let least : next_multiple_of (a + 16) align ≤ p / align * align = next_multiple_of-least (a + 16) align (p / align) some reached in
+    let least : next_multiple_of (a + 16) align ≤ p / align * align = next_multiple_of-least (a + 16) align (p / align) some (omega (arith, payload_of-after b align)) in
     omega (arith, least, multiple)
 
 -- the end of the used block, and of a free one behind it
@@ -107,15 +106,7 @@ module _ {fllen sllen : ℕ} {memory : Range} {s : State} (w : IsWellFormed flle
     length_of = taken_is ∙ ap₂ (λ b n. next_multiple_of (payload - b + n) 32) (sym before.2) wanted_is
 
     pub FitsBefore-computed : taken ≤ end - start + more → FitsBefore s u size payload taken
-    FitsBefore-computed fits = record {
-      previous = before.0;
-      found = before.1;
-      placed = placed;
-      long = length_of;
-      fits = omega (arith, before.2, reached, fits, previous-le, block-le);
-    }
+    FitsBefore-computed fits = grind (arith, before, placed, length_of, reached, previous-le, block-le)
 
     pub into_previous-refused : end - start + more < taken → into_previous s u size ≡ None
-    into_previous-refused short =
-        let long_is : taken ≡ block_length before.0.start (payload_of before.0.start u.align) size = length_of ∙ ap (λ p. block_length before.0.start p size) placed in
-        into_previous-too_long s u size before.0 before.1 (omega (arith, long_is, before.2, reached, short, previous-le, block-le))
+    into_previous-refused short = grind (arith, before, length_of, placed, into_previous-too_long, reached, previous-le, block-le)

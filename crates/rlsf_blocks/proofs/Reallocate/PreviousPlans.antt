@@ -100,17 +100,15 @@ module _ {fllen sllen : ℕ} {first m : Space} {t : Table} {s : State} {u : Used
 
   pub LiesIn-moved : LiesIn (range_at to (end - payload)) m2.start (length m2.bytes)
   LiesIn-moved =
-      let is = spans in
       let inside = inner.room.placed.lies_in in
       let same : end - payload ≡ (usable u).len = ap (λ q. q.len) usable_is in
-      (omega (arith, inside.0, are.plan.placed, is.start, is.after_start), omega (arith, inside.1, same, are.plan.placed, is.end, is.enough, fits))
+      (omega (arith, inside.0, are.plan.placed, spans.start, spans.after_start), omega (arith, inside.1, same, are.plan.placed, spans.end, spans.enough, fits))
 
   pub IsOwned-moved : IsOwned m2 (range_at to (end - payload))
   IsOwned-moved =
-      let is = spans in
       let same : end - payload ≡ (usable u).len = ap (λ q. q.len) usable_is in
-      own-inside m2 (union u.block s.free) (range_at to (end - payload)) (omega (arith, are.plan.placed, is.start, is.after_start))
-      (omega (arith, same, are.plan.placed, is.end, is.enough, fits)) inner.room.placed.own
+      own-inside m2 (union u.block s.free) (range_at to (end - payload)) (omega (arith, are.plan.placed, spans.start, spans.after_start))
+      (omega (arith, same, are.plan.placed, spans.end, spans.enough, fits)) inner.room.placed.own
 
   -- units of 16 bytes go to no later place
   pub are_units : ((end - payload) % 16 ≡ 0) × ((payload + (end - payload) ≤ to) ⊎ (to ≤ payload))
@@ -136,25 +134,14 @@ module _ {fllen sllen : ℕ} {first m : Space} {t : Table} {s : State} {u : Used
   start-fits = let inside = inner.room.placed.lies_in in omega (arith, begins, spans.start, inside, inner.room.list.addressable)
 
   pub part : (taken % 32 ≡ 0) × (0 < taken) × (taken ≤ end - start + next)
-  part =
-      let is = spans in
-      (omega (arith, length_of, is.granules), omega (arith, length_of, is.after_start, is.enough), omega (arith, length_of, is.end, is.start, fits, total_is.1))
+  part = grind (arith, spans, length_of, fits, total_is)
 
   -- ---- the payload was copied
 
   module _ {m3 : Space} (same_start : m3.start ≡ m2.start) (copied : m3.bytes ≡ with_bytes m2 to (bytes_in m2 (range_at payload (end - payload))))
       (out : m3.out ≡ out_with m2 (range_at to (end - payload))) where
     IsCopied-computed : IsCopied m2 m3 (union u.block s.free) (usable u) (payload_of are.plan.previous.start u.align)
-    IsCopied-computed =
-        let is = spans in
-        record {
-          placed = placed;
-          low = omega (arith, is.start, is.after_start);
-          high = omega (arith, is.end, is.enough, fits);
-          start = same_start;
-          bytes = copied ∙ ap₂ (λ a q. with_bytes m2 a (bytes_in m2 q)) are.plan.placed usable_is;
-          out = out ∙ ap₂ (λ a q. out_with m2 (range_at a q.len)) are.plan.placed usable_is;
-        }
+    IsCopied-computed = grind (arith, spans, placed, fits, usable_is)
 
     pub room : IsInnerRoom fllen sllen m3 t2 (untouched u.block s.free) (union u.block s.free)
     room = IsInnerRoom-copied (union u.block s.free) inner (usable u) (payload_of are.plan.previous.start u.align) IsCopied-computed

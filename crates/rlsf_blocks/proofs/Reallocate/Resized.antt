@@ -1,12 +1,11 @@
 -- A used block got another size in place: the value represents the state with it.
-use Rattle.std.proofs.Common.{◌≡◌, ℕ, ◌+◌, ◌-◌, ◌%◌, ◌^◌, ◌<◌, ◌≤◌, ◌⊎◌, true, List, ◌∷◌, ◌++◌, length, drop, min, arith, inl, inr, refl, sym, ◌∙◌, ap, subst}
+use Rattle.std.proofs.Common.{◌≡◌, ℕ, ◌+◌, ◌-◌, ◌%◌, ◌^◌, ◌<◌, ◌≤◌, ◌⊎◌, List, ◌∷◌, ◌++◌, length, drop, min, arith, inl, inr, refl, sym, ◌∙◌, ap, subst}
 use mathlib.Core.Path.{ap₂}
 use Rattle.std.proofs.lemmas.List.{take-take}
 use Rattle.std.specs.Int.{w64, from_le_bytes}
 use Rattle.rlsf_base.specs.declared.memory.range.Range.{Range}
-use Rattle.rlsf_base.specs.Out.{is_own}
 use Rattle.rlsf_base.specs.Range.{end_of, range_at, LiesIn}
-use Rattle.rlsf_base.specs.Space.{Space, bytes_in, out_at, range_of, word_at, word_range}
+use Rattle.rlsf_base.specs.Space.{Space, bytes_in, range_of, word_at, word_range}
 use Rattle.rlsf_base.proofs.Lending.WordIsHere.{is_here-word, word_at-is}
 use Rattle.rlsf_model.specs.Allocate.{rest_behind}
 use Rattle.rlsf_model.specs.Lists.{IsIn}
@@ -84,8 +83,7 @@ module _ {fllen sllen : ℕ} {m : Space} {t : Table} {s : State} (v : StandsFor 
   IsCarriedOut-kept {n} start bytes out same =
       let p = kept_whole s u size in
       let after = replanned s u p u.bytes in
-      let is = v.well_formed.used u i in
-      let long : length u.bytes ≡ end_of p.block - p.payload = is.bytes ∙ omega (arith, same) in
+      let long : length u.bytes ≡ end_of p.block - p.payload = (v.well_formed.used u i).bytes ∙ omega (arith, same) in
       let block : resized u size ≡ u.block = ap (λ l. range_at u.block.start l) (omega (arith, same)) in
       let unchanged : moved u p u.bytes ≡ u = ap (λ (b : Range). record { block = b; payload = u.payload; align = u.align; bytes = u.bytes }) block in
       let well_formed = IsWellFormed-replanned v.well_formed u i size p (IsSound-kept s u size v.well_formed i same) u.bytes long in
@@ -108,16 +106,14 @@ module _ {fllen sllen : ℕ} {m : Space} {t : Table} {s : State} (v : StandsFor 
     -- what of the block lies in both blocks, behind the first 16 bytes, is as it was
     stays : (q : Range) → u.block.start + 16 ≤ q.start → end_of q ≤ end_of u.block → end_of q ≤ end_of (resized u size) → bytes_in n q ≡ bytes_in m q
     stays q from old new =
-        let place = used_in_memory v.well_formed u i in
-        occupied.kept q from new ∙ out.rewrites.bytes q (omega (arith, place.0)) apart
+        occupied.kept q from new ∙ out.rewrites.bytes q (omega (arith, (used_in_memory v.well_formed u i).0)) apart
       where
         apart : (a : ℕ) → IsLink s.free a → (end_of q ≤ a) ⊎ (a + 8 ≤ q.start)
         apart a (g, j, at) =
             let free = v.well_formed.free g j in
-            let more = free.some in
             let inside : (g.start ≤ a) × (a + 8 ≤ end_of g) =
             elim at [ inl e ↦ (omega arith, omega (arith, free.whole.len)) | inr e ↦ (omega arith, omega (arith, free.whole.len)) ] in
-            elim (sides u.block g (IsUsed-some u (v.well_formed.used u i)) more (λ b hu hg. used_free v.well_formed u g b i j hu hg)) [
+            elim (sides u.block g (IsUsed-some u (v.well_formed.used u i)) free.some (λ b hu hg. used_free v.well_formed u g b i j hu hg)) [
               | inl before ↦ inl (omega arith)
               | inr behind ↦ inr (omega arith)
             ]
@@ -193,14 +189,13 @@ module _ {fllen sllen : ℕ} {m : Space} {t : Table} {s : State} (v : StandsFor 
     IsCarriedOut-stretched =
         let p = stretched s u size in
         let bytes = resized_bytes n u size in
-        let words = refilled in
         let whole = IsWhole-span v u i in
         let some = span-some v u i in
         let at = home v u i in
         let well_formed = IsWellFormed-replanned v.well_formed u i size p sound bytes long in
-        let same : range_of n ≡ range_of m = ap₂ (λ a l. range_at a l) words.rewrites.start words.rewrites.length in (
+        let same : range_of n ≡ range_of m = ap₂ (λ a l. range_at a l) refilled.rewrites.start refilled.rewrites.length in (
           replanned s u p bytes,
           record { bytes = bytes; answer = refl; length = long; kept = keeps; after = refl },
-          StandsFor-refilled v (span_of s u) whole some at words (subst (λ r. IsWellFormed fllen sllen r (replanned s u p bytes)) (sym same) well_formed),
-          KeepsSpare-refilled v (span_of s u) whole some at words,
+          StandsFor-refilled v (span_of s u) whole some at refilled (subst (λ r. IsWellFormed fllen sllen r (replanned s u p bytes)) (sym same) well_formed),
+          KeepsSpare-refilled v (span_of s u) whole some at refilled,
         )

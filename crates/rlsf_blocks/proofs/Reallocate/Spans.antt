@@ -84,9 +84,8 @@ module _ {fllen sllen : ℕ} {m : Space} {t : Table} {s : State} (v : StandsFor 
   -- and in the memory, 32 bytes or more before its end
   pub span_in_memory : (m.start ≤ u.block.start) × (reach s u + 32 ≤ m.start + length m.bytes)
   span_in_memory =
-      let here = home in
-      let placed = (v.well_formed.chunks here.chunk here.is_chunk).lies_in in
-      (omega (arith, here.from, placed.0), omega (arith, here.to, placed.1, end_of-span))
+      let placed = (v.well_formed.chunks home.chunk home.is_chunk).lies_in in
+      (omega (arith, home.from, placed.0), omega (arith, home.to, placed.1, end_of-span))
 
   pub IsFree-span : IsFree fllen sllen (span_of s u)
   IsFree-span =
@@ -103,13 +102,7 @@ module _ {fllen sllen : ℕ} {m : Space} {t : Table} {s : State} (v : StandsFor 
 
     -- an address that is no usable byte of another payload
     beside : (a : ℕ) → ((y : Used) → IsIn y (others u.payload s.used) → y.payload ≤ a → a < end_of y.block → ⊥) → IsUnlent (released s u) a
-    beside a apart y j = elim (cases_lt a y.payload) [
-      | inl before ↦ inl before
-      | inr behind ↦ elim (cases_lt a (end_of y.block)) [
-        | inl within ↦ absurd (apart y j behind within)
-        | inr past ↦ inr past
-      ]
-    ]
+    beside a apart y j = grind (arith, cases_lt)
 
     pub IsOwned-rest : u.block.start ≤ x → IsOwned m (between x (end_of (span_of s u)))
     IsOwned-rest after a lo hi = let here = home in

@@ -1,5 +1,5 @@
 -- A new value represents the empty state.
-use Rattle.std.proofs.Common.{◌≡◌, ℕ, ◌+◌, ◌^◌, ◌<◌, [], length}
+use Rattle.std.proofs.Common.{ℕ, ◌+◌, ◌^◌, ◌<◌, [], length}
 use Rattle.rlsf_base.specs.Space.{Space, range_of}
 use Rattle.rlsf_base.specs.SizeClass.{IsValid}
 use Rattle.rlsf_model.specs.State.{empty}

@@ -26,11 +26,4 @@ module _ {fllen sllen : ℕ} {m : Space} {t : Table} {s : State} (v : StandsFor 
       }
 
   pub IsFreeTable-free : IsFreeTable fllen sllen m t s.free
-  IsFreeTable-free = record {
-    table = v.table;
-    blocks = v.well_formed.free;
-    placed = CanBeBlock-free;
-    apart = free-le s (tiling_of v.well_formed);
-    sizes = v.sizes.free;
-    addressable = v.well_formed.addressable;
-  }
+  IsFreeTable-free = grind (arith, CanBeBlock-free, free-le, tiling_of)

@@ -45,10 +45,7 @@ module _ {fllen sllen : ℕ} {memory : Range} {s : State} (w : IsWellFormed flle
 
   -- a range that begins in another's bytes or at its end begins at its end, if the two have no address in common
   begins_at_end : (r q : Range) → 0 < r.len → ((a : ℕ) → Has r a → Has q a → ⊥) → Has q (end_of r) → q.start ≡ end_of r
-  begins_at_end r q some apart h = elim (cases_lt q.start (end_of r)) [
-    | inl before ↦ absurd (apart (end_of r - 1) (record { from = omega arith; to = omega arith }) (record { from = omega arith; to = omega (arith, h.to) }))
-    | inr behind ↦ omega (arith, h.from)
-  ]
+  begins_at_end r q some apart h = grind (arith, cases_lt)
 
   module _ (u : Used) (i : IsIn u s.used) where
     pub behind_used : Behind s (end_of u.block)
@@ -66,7 +63,6 @@ module _ {fllen sllen : ℕ} {memory : Range} {s : State} (w : IsWellFormed flle
                 | inr behind ↦ omega (arith, h.from)
               ])
           | in_last c j h ↦
-              let room = (w.chunks c j).has_room in
               last_behind c j (begins_at_end u.block (last_bytes c) some (λ a hu hc. used_last w u c a i j hu (omega (arith, hc.from)) (omega (arith, hc.to))) h)
         ]
 

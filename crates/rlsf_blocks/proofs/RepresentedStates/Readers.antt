@@ -1,6 +1,6 @@
 -- What is read of the class table of a value, in terms of the state that it represents.
 use Rattle.std.proofs.Common.{◌≡◌, ℕ, ◌+◌, ◌<◌, ◌≤◌, false, List, [], ◌∷◌, Option, Some, MatchOption, option_map, slice_index, arith, refl, sym}
-use Rattle.std.proofs.Common.{◌∙◌, ap, subst, inl, inr}
+use Rattle.std.proofs.Common.{◌∙◌, ap, subst, inl}
 use Rattle.std.specs.Int.NonZero.{non_zero_usize_get}
 use Rattle.std.specs.List.{list_any}
 use Rattle.std.specs.declared.num.NonZeroUsize.{NonZeroUsize}
@@ -37,10 +37,7 @@ module _ (fllen sllen : ℕ) (v : Contents) (s : State) (stands : StandsFor flle
   -- the first level, read row by row
   pub rows_of-first_level : (read : ℕ) → ((fl : ℕ) → fl < fllen → bit read fl ≡ bit v.table.first_level fl) → ((fl : ℕ) → fllen ≤ fl → bit read fl ≡ false)
       → (fl : ℕ) → bit read fl ≡ list_any (is_in_row sllen fl) s.free
-  rows_of-first_level read within past fl = elim (cases_lt fl fllen) [
-    | inl row ↦ within fl row ∙ stands.table.bits.first fl
-    | inr behind ↦ past fl behind ∙ sym (past_rows fl behind)
-  ]
+  rows_of-first_level read within past fl = grind (arith, cases_lt, past_rows)
 
 module _ (fllen sllen : ℕ) (v : Contents) (s : State) (stands : StandsFor fllen sllen v s) (fl : ℕ) (row : fl < fllen) where
   -- no free range begins at 0
@@ -58,15 +55,10 @@ module _ (fllen sllen : ℕ) (v : Contents) (s : State) (stands : StandsFor flle
 
   -- no range has a place past the row
   past_row : (sl : ℕ) → sllen ≤ sl → list_any (has_class sllen (class_at fl sl)) s.free ≡ false
-  past_row sl past = list_any-false (has_class sllen (class_at fl sl)) s.free (λ f i. and_right _ _
-      (ne_eqb (class_of sllen f.len).division sl
-      (λ same. let within = division-lt sllen f.len (stands.well_formed.free f i).some stands.well_formed.row_length in omega (arith, within, same))))
+  past_row sl past = grind (arith, list_any-false, and_right, ne_eqb, division-lt, some)
 
   -- the row's word, read place by place
   pub places_of-row : (read : ℕ) → ((sl : ℕ) → sl < sllen → bit read sl ≡ bit (slice_index v.table.second_level fl) sl)
       → ((sl : ℕ) → sllen ≤ sl → bit read sl ≡ false)
       → (sl : ℕ) → bit read sl ≡ list_any (has_class sllen (class_at fl sl)) s.free
-  places_of-row read within past sl = elim (cases_lt sl sllen) [
-    | inl place ↦ within sl place ∙ stands.table.bits.second fl sl row
-    | inr behind ↦ past sl behind ∙ sym (past_row sl behind)
-  ]
+  places_of-row read within past sl = grind (arith, cases_lt, past_row)

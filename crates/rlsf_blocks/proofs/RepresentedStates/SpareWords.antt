@@ -51,7 +51,6 @@ module _ {fllen sllen : ℕ} {m : Space} {t : Table} {s : State} (old : StandsFo
   payload u i =
       let used = w.used u i in
       let home = home_of_used w u i in
-      let after_start = IsUsed-after_start u used in
       rewrites.bytes (usable u) (omega (arith, (used_in_memory w u i).0)) (λ a at. elim (cases_lt a u.block.start) [
         | inl before ↦ inr (omega arith)
         | inr from ↦ elim (cases_lt a (end_of u.block)) [

@@ -52,17 +52,11 @@ module _ {fllen sllen : ℕ} {m : Space} {t : Table} {s : State} (v : StandsFor 
 
     -- which is that of the chunk's sentinel, where the iteration is at the chunk's end
     pub end_there : {word : ℕ} → word ≡ word_at m a → word ≡ 35 → a + 32 ≡ end_of c
-    end_there {word} read sentinel = elim is.at [
-      | block_behind (b, j, begins) ↦ absurd (block_word v.well_formed v.sizes b j (ap (word_at m) begins ∙ sym read ∙ sentinel))
-      | end_behind d j begins ends ↦ ends
-    ]
+    end_there {word} read sentinel = grind (arith, block_behind, block_word, end_behind)
 
     -- a block begins there, where the word is another
     begins_there : {word : ℕ} → word ≡ word_at m a → word ≢ 35 → BlockBegins s a
-    begins_there {word} read other = elim is.at [
-      | block_behind begins ↦ begins
-      | end_behind d j begins ends ↦ absurd (other (read ∙ ap (word_at m) (sym begins) ∙ v.sizes.sentinel d j))
-    ]
+    begins_there {word} read other = grind (arith, block_behind, end_behind)
 
     -- and the iteration goes on behind it
     pub IsInChunk-next : {word : ℕ} → word ≡ word_at m a → word ≢ 35 → IsInChunk s c (a + word / 32 * 32) × (a < a + word / 32 * 32)

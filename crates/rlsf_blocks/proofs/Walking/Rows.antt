@@ -1,5 +1,5 @@
 -- An iteration over contiguous chunks is at a block, or at its end.
-use Rattle.std.proofs.Common.{◌≡◌, ℕ, ◌-◌, ◌^◌, ◌<◌, ◌≤◌, min, arith, inl, inr, refl, subst}
+use Rattle.std.proofs.Common.{◌≡◌, ℕ, ◌-◌, ◌^◌, ◌<◌, ◌≤◌, min, arith, inl, inr, subst}
 use Rattle.std.proofs.lemmas.Bool.{cases_lt}
 use Rattle.rlsf_base.specs.declared.memory.range.Range.{Range}
 use Rattle.rlsf_base.specs.Range.{end_of}
@@ -70,21 +70,12 @@ module _ {fllen sllen : ℕ} {m : Space} {t : Table} {s : State} (v : StandsFor 
 
   -- the iteration begins at the rounded start, if that is before the end, and the end is not cut off
   pub IsSpan-some : (r : Range) (end : ℕ) → end ≡ min (end_of r) (2 ^ 64 - 1) → round32 r.start < end → IsRow s (walked r) → IsSpan (walked r) (round32 r.start) end
-  IsSpan-some r end cut lt row =
-      let top = row_addressable (walked r) row (omega (arith, cut, lt)) in
-      let same : end ≡ end_of r = omega (arith, cut, top, lt) in
-      record { within = omega (arith, lt); some = λ _. (refl, omega (arith, same, lt)); none = λ none. absurd (omega (arith, same, lt, none)) }
+  IsSpan-some r end cut lt row = grind (arith, row_addressable)
 
   -- at the end, if that is not before the rounded start
   pub IsSpan-over : (r : Range) (end : ℕ) → end ≡ min (end_of r) (2 ^ 64 - 1) → end ≤ round32 r.start → round32 r.start < 2 ^ 64 → IsSpan (walked r) end end
-  IsSpan-over r end cut over fits =
-      let past : end_of r ≤ round32 r.start = omega (arith, cut, over, fits) in
-      record { within = omega arith; some = λ some. absurd (omega (arith, some, past)); none = λ _. refl }
+  IsSpan-over r end cut over fits = grind arith
 
   -- or if the rounded start is past the last address
   pub IsSpan-past : (r : Range) (end : ℕ) → 2 ^ 64 ≤ round32 r.start → IsRow s (walked r) → IsSpan (walked r) end end
-  IsSpan-past r end past row = record {
-    within = omega arith;
-    some = λ some. absurd (omega (arith, some, past, row_addressable (walked r) row some));
-    none = λ _. refl;
-  }
+  IsSpan-past r end past row = grind (arith, row_addressable)

@@ -28,11 +28,7 @@ pub record IsStep (m : Space) (s : State) (start end next : ℕ) : Type 0 where
 module _ {fllen sllen : ℕ} {m : Space} {t : Table} {s : State} (v : StandsFor fllen sllen (contents m t) s) where
   -- from a later address on, where a block begins, an iteration goes on to the same end
   later : (start next end : ℕ) → IsAtBlock s start end → start ≤ next → next ≤ end → (next < end → BlockBegins s next) → IsAtBlock s next end
-  later start next end is after within begins = record {
-    within = within;
-    begins = begins;
-    chunks = λ a from to. is.chunks a (omega (arith, from)) to;
-  }
+  later start next end is after within begins = grind arith
 
   step_from : (start end : ℕ) → IsAtBlock s start end → (lt : start < end) → BlockBegins s start → IsStep m s start end (next_start m (end_of (block_at m start).range))
   step_from start end is lt (b, i, begins) =

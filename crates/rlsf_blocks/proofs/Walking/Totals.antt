@@ -1,5 +1,5 @@
 -- The totals with one block more.
-use Rattle.std.proofs.Common.{◌≡◌, ℕ, ◌+◌, ◌≤◌, Bool, true, false, cond, not, List, ◌∷◌, length, map, arith, refl, sym, ◌∙◌, ap, inl}
+use Rattle.std.proofs.Common.{◌≡◌, ℕ, ◌+◌, ◌≤◌, Bool, true, false, cond, not, List, ◌∷◌, length, map, arith, refl, ap, inl}
 use Rattle.std.proofs.lemmas.List.Sums.{sum_by-cons}
 use Rattle.std.specs.Prelude.{max}
 use Rattle.rlsf_blocks.specs.Blocks.{Block, IsInOrder}
@@ -46,25 +46,7 @@ module _ (s : Totals) (b : Block) (bs all : List Block) (is : IsCounted s (b ∷
       (record { payloads = s.payloads; used = s.used; free = s.free + b.range.len; longest = max s.longest b.range.len })
 
   by_use : (k : Bool) → b.is_occupied ≡ k → (when k).payloads ≤ (when k).used → IsCounted (when k) bs all
-  by_use true e few = record {
-    payloads = omega (arith, is.payloads, ap length (used_cons b bs e));
-    used = omega (arith, is.used, ap total (used_cons b bs e), total_cons b (used_of bs));
-    free = ap (λ l. s.free + total l) (sym (free_skip b bs e)) ∙ is.free;
-    longest = ap (λ l. max s.longest (greatest (map (λ (b : Block). b.range.len) l))) (sym (free_skip b bs e)) ∙ is.longest;
-    behind = λ c i. omega (arith, is.in_order.0 c i, below);
-    in_order = is.in_order.1;
-    few = few;
-  }
-  by_use false e few = record {
-    payloads = ap (λ l. s.payloads + length l) (sym (used_skip b bs e)) ∙ is.payloads;
-    used = ap (λ l. s.used + total l) (sym (used_skip b bs e)) ∙ is.used;
-    free = omega (arith, is.free, ap total (free_cons b bs e), total_cons b (free_of bs));
-    longest = max_max s.longest b.range.len (greatest (map (λ (b : Block). b.range.len) (free_of bs)))
-        ∙ ap (λ l. max s.longest (greatest (map (λ (b : Block). b.range.len) l))) (sym (free_cons b bs e)) ∙ is.longest;
-    behind = λ c i. omega (arith, is.in_order.0 c i, below);
-    in_order = is.in_order.1;
-    few = few;
-  }
+  by_use h1 e few = grind (arith, used_cons, total_cons, free_skip, below, used_skip, free_cons, max_max)
 
   pub one_more : (counted s b).payloads ≤ (counted s b).used → IsCounted (counted s b) bs all
   one_more few = by_use b.is_occupied refl few

@@ -18,23 +18,11 @@ use Rattle.rlsf_blocks.proofs.Words.Apart.{Has, used_free, free_in_memory, used_
 
 -- of two ranges that have no address in common, one ends before the other begins
 pub sides : (r q : Range) → 0 < r.len → 0 < q.len → ((a : ℕ) → Has r a → Has q a → ⊥) → (end_of r ≤ q.start) ⊎ (end_of q ≤ r.start)
-sides r q some more apart = elim (cases_lt q.start (end_of r)) [
-  | inr before ↦ inl before
-  | inl low ↦ elim (cases_lt r.start (end_of q)) [
-    | inr behind ↦ inr behind
-    | inl high ↦ elim (cases_lt r.start q.start) [
-      | inl first ↦ absurd (apart q.start (record { from = omega arith; to = low }) (record { from = omega arith; to = omega arith }))
-      | inr last ↦ absurd (apart r.start (record { from = omega arith; to = omega arith }) (record { from = last; to = high }))
-    ]
-  ]
-]
+sides r q some more apart = grind (arith, cases_lt)
 
 -- two blocks of complete granules that have no address in common: one ends in the other only where that begins
 pub begins_there : (r q : Range) → 0 < q.len → ((a : ℕ) → Has r a → Has q a → ⊥) → Has r (end_of q) → r.start ≡ end_of q
-begins_there r q some apart at = elim (cases_lt r.start (end_of q)) [
-  | inl before ↦ absurd (apart (end_of q - 1) (record { from = omega arith; to = omega (arith, at.to) }) (record { from = omega arith; to = omega arith }))
-  | inr from ↦ omega (arith, at.from)
-]
+begins_there r q some apart at = grind (arith, cases_lt)
 
 module _ {fllen sllen : ℕ} {m n : Space} {s : State} (w : IsWellFormed fllen sllen (range_of m) s) (hole : Range) (whole : hole.start % 32 ≡ 0) (room : 0 < hole.len)
     (past : ℕ) (second : past % 32 ≡ 8) (not_before : hole.start ≤ past) (not_far : past ≤ end_of hole + 8) (rewrites : Rewrites m n (Touched s.free hole past)) where
@@ -65,8 +53,7 @@ module _ {fllen sllen : ℕ} {m n : Space} {s : State} (w : IsWellFormed fllen s
     pub used_previous : end_of u.block ≢ hole.start → end_of u.block + 8 ≢ past → word_at n (end_of u.block + 8) ≡ word_at m (end_of u.block + 8)
     used_previous start other =
         let is = w.used u i in
-        let place = used_in_memory w u i in
-        second_word (end_of u.block) (omega (arith, is.whole.start, is.whole.len)) (omega (arith, place.0))
+        second_word (end_of u.block) (omega (arith, is.whole.start, is.whole.len)) (omega (arith, (used_in_memory w u i).0))
         (λ h. start (sym (begins_there hole u.block (IsUsed-some u is) (λ a hh hu. apart a hu hh) h))) other
 
     -- what is written lies outside the part of the block from 16 bytes after its start on
@@ -91,8 +78,7 @@ module _ {fllen sllen : ℕ} {m n : Space} {s : State} (w : IsWellFormed fllen s
     pub used_bytes : bytes_in n (usable u) ≡ bytes_in m (usable u)
     used_bytes =
         let is = w.used u i in
-        let place = used_in_memory w u i in
-        rewrites.bytes (usable u) (omega (arith, place.0, IsUsed-after_start u is))
+        rewrites.bytes (usable u) (omega (arith, (used_in_memory w u i).0, IsUsed-after_start u is))
         (λ a t. elim (used_rest a t u.payload (IsUsed-after_start u is)) [ inl past ↦ inl (omega (arith, past, is.within)) | inr below ↦ inr below ])
 
     pub used_pad : 32 ≤ u.align → word_at n (u.payload - 8) ≡ word_at m (u.payload - 8)
@@ -112,8 +98,7 @@ module _ {fllen sllen : ℕ} {m n : Space} {s : State} (w : IsWellFormed fllen s
     pub free_previous : end_of g ≢ hole.start → end_of g + 8 ≢ past → word_at n (end_of g + 8) ≡ word_at m (end_of g + 8)
     free_previous start other =
         let is = w.free g i in
-        let place = free_in_memory w g i in
-        second_word (end_of g) (omega (arith, is.whole.start, is.whole.len)) (omega (arith, place.0))
+        second_word (end_of g) (omega (arith, is.whole.start, is.whole.len)) (omega (arith, (free_in_memory w g i).0))
         (λ h. start (sym (begins_there hole g is.some (λ a hh hg. apart a hg hh) h))) other
 
   module _ (c : Range) (i : IsIn c s.chunks) where

@@ -10,8 +10,7 @@ use Rattle.rlsf_base.specs.Space.{Space, out_at, range_of, word_at, word_range}
 use Rattle.rlsf_base.specs.OpenSpace.{IsOwned, IsReadable}
 use Rattle.rlsf_model.specs.Lists.{IsIn}
 use Rattle.rlsf_model.specs.State.{State, Used, between, usable}
-use Rattle.rlsf_model.specs.WellFormed.{IsWellFormed, coverage, itself, last_bytes}
-use Rattle.rlsf_model.proofs.Coverage.{covers-inside, coverage-IsIn}
+use Rattle.rlsf_model.specs.WellFormed.{IsWellFormed, last_bytes}
 use Rattle.rlsf_model.proofs.Payloads.{IsUsed-after_start}
 use Rattle.rlsf_table.specs.Table.{Table}
 use Rattle.rlsf_blocks.specs.StandsFor.{contents, IsUnlent, OwnsChunks, StandsFor}
@@ -95,9 +94,8 @@ module _ {fllen sllen : ℕ} {m : Space} {t : Table} {s : State} (v : StandsFor 
   pub front_word : (u : Used) → IsIn u s.used → (a : ℕ) → a % 8 ≡ 0 → u.block.start ≤ a → a + 8 ≤ u.payload → word_at m a < 2 ^ 64 → IsReadable m a
   front_word u i a whole from to fits =
       let place = used_in_memory v.well_formed u i in
-      let within = (v.well_formed.used u i).within in
       let own = own-word m (between u.block.start u.payload) a (here_front u i) (omega (arith, from)) (omega (arith, from, to)) in
-      is_word m a (whole, (omega (arith, place.0, from), omega (arith, place.1, within, to)), own) fits
+      is_word m a (whole, (omega (arith, place.0, from), omega (arith, place.1, (v.well_formed.used u i).within, to)), own) fits
 
   pub used_word : (u : Used) → IsIn u s.used → (a : ℕ) → u.block.start ≡ a → IsReadable m a
   used_word u i a at =
@@ -159,8 +157,7 @@ module _ {fllen sllen : ℕ} {m : Space} {t : Table} {s : State} (v : StandsFor 
   pub here_walk : (a end : ℕ) → BehindBlock s a end → IsOwned m (word_range a)
   here_walk a end (block_behind (b, has, begins)) = subst (λ k. IsOwned m (word_range k)) begins (here_block b has)
   here_walk a end (end_behind c i begins ends) =
-      let chunk = v.well_formed.chunks c i in
-      own-word m (last_bytes c) a (here_last c i) (omega (arith, begins)) (omega (arith, begins, chunk.has_room))
+      own-word m (last_bytes c) a (here_last c i) (omega (arith, begins)) (omega (arith, begins, (v.well_formed.chunks c i).has_room))
 
   -- a used block's bytes from an address on are here: then nothing is out but usable bytes of the other payloads, and those of this one before that address
   pub own_but_front : (u : Used) → IsIn u s.used → (x : ℕ) → IsOwned m (between x (end_of u.block)) → (a : ℕ) → m.start ≤ a → (a < u.payload) ⊎ (x ≤ a)
@@ -176,8 +173,7 @@ module _ {fllen sllen : ℕ} {m : Space} {t : Table} {s : State} (v : StandsFor 
         | inl same ↦
             let has_u : Has u.block (u.payload - 1) = record { from = omega (arith, after u i); to = omega (arith, after u i, (v.well_formed.used u i).within) } in
             let has_y : Has y.block (u.payload - 1) = record { from = omega (arith, after y j, same); to = omega (arith, after y j, same, (v.well_formed.used y j).within) } in
-            let one = used_used v.well_formed y u (u.payload - 1) j i has_y has_u in
-            inr (subst (λ (z : Used). end_of z.block ≤ a) (sym one) past)
+            inr (subst (λ (z : Used). end_of z.block ≤ a) (sym (used_used v.well_formed y u (u.payload - 1) j i has_y has_u)) past)
         | inr other ↦ unlent y (IsIn-others_from u.payload y s.used j other)
       ]) c is_chunk begins ends
     ]

@@ -1,11 +1,10 @@
 -- A hole was written over: the value represents the state whose new blocks and chunks have their words.
-use Rattle.std.proofs.Common.{◌≡◌, ◌≢◌, ℕ, ◌+◌, ◌-◌, ◌%◌, ◌<◌, ◌≤◌, ◌⊎◌, true, List, arith, inl, inr, sym, ◌∙◌, ap, refl, drop, get_or}
+use Rattle.std.proofs.Common.{◌≡◌, ◌≢◌, ℕ, ◌+◌, ◌-◌, ◌%◌, ◌<◌, ◌≤◌, ◌⊎◌, List, arith, inl, inr, sym, ◌∙◌, ap, refl, drop, get_or}
 use Rattle.std.proofs.lemmas.Bool.{cases_eq, cases_lt}
 use Rattle.std.proofs.lemmas.List.{get_or-drop, get_or-take}
 use Rattle.rlsf_base.specs.declared.memory.range.Range.{Range}
-use Rattle.rlsf_base.specs.Out.{is_own}
 use Rattle.rlsf_base.specs.Range.{end_of, range_at}
-use Rattle.rlsf_base.specs.Space.{Space, byte_at, out_at, bytes_in, range_of, word_at}
+use Rattle.rlsf_base.specs.Space.{Space, byte_at, bytes_in, range_of, word_at}
 use Rattle.rlsf_table.specs.Rewrites.{IsLink, Rewrites}
 use Rattle.rlsf_table.specs.Table.{Table, HasTable}
 use Rattle.rlsf_blocks.specs.Steps.Touched.{Touched, at_link, in_hole, at_other}
@@ -45,10 +44,7 @@ KeepsSpare-Touched {m = m} {n = n} {s = s} w t hole other rewrites no_hole no_ot
         omega (arith, home.to, h.to)
 
     outside : (r : Range) (x : ℕ) → (Has r a → ⊥) → r.start ≤ x → x + 8 ≤ end_of r → (a < x) ⊎ (x + 8 ≤ a)
-    outside r x none low high = elim (cases_lt a x) [
-      | inl below ↦ inl below
-      | inr from_x ↦ elim (cases_lt a (x + 8)) [ inl inside ↦ absurd (none (record { from = omega arith; to = omega arith })) | inr above ↦ inr above ]
-    ]
+    outside r x none low high = grind (arith, cases_lt, from, to)
 
     apart : (x : ℕ) → Touched s.free hole other x → (end_of (range_at a 1) ≤ x) ⊎ (x + 8 ≤ a)
     apart x (at_link (g, i, inl at)) = let is = w.free g i in word_apart x (outside g x (not_free g i) (omega arith) (omega (arith, is.some, is.whole.len)))
@@ -59,10 +55,7 @@ KeepsSpare-Touched {m = m} {n = n} {s = s} w t hole other rewrites no_hole no_ot
 -- the links of the list, and what was touched in a part of it, in the hole and at another word
 pub Touched-joined : {free part : List Range} {hole : Range} {other : ℕ} → ((f : Range) → IsIn f part → IsIn f free) → (a : ℕ)
     → IsLink free a ⊎ Touched part hole other a → Touched free hole other a
-Touched-joined among a (inl l) = at_link l
-Touched-joined among a (inr (at_link (f, j, at))) = at_link (f, among f j, at)
-Touched-joined among a (inr (in_hole low high)) = in_hole low high
-Touched-joined among a (inr (at_other at)) = at_other at
+Touched-joined among a h3 = grind arith
 
 -- a used block that was there, outside the hole, or a new one with its words
 pub data IsUsedStill (n : Space) (s : State) (hole : Range) (u : Used) : Type 0 where
@@ -103,10 +96,7 @@ module _ {fllen sllen : ℕ} {m n : Space} {table changed : Table} {s : State} (
 
   -- a block outside the hole has that word behind it only if it ends where the hole begins
   other_end : (r : Range) → 0 < r.len → ((a : ℕ) → Has r a → Has hole a → ⊥) → end_of r ≢ hole.start → end_of r + 8 ≢ past
-  other_end r long apart off same = elim past_is [
-    | inl at ↦ apart (end_of r - 1) (record { from = omega arith; to = omega arith }) (record { from = omega arith; to = omega arith })
-    | inr at ↦ off (omega arith)
-  ]
+  other_end r long apart off same = grind (arith, apart, from, to)
 
   size_used : (u : Used) → IsUsedStill n s hole u → word_at n u.block.start ≡ u.block.len + 1
   size_used u (old_used i apart) = used_size old.well_formed hole whole some past second from to is.rewrites u i apart ∙ old.sizes.used u i

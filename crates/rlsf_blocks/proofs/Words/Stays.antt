@@ -14,11 +14,7 @@ pub record Stays (m n : Space) : Type 0 where
   pub here : StaysHere m n
 
 pub Stays-then : {m n o : Space} → Stays m n → Stays n o → Stays m o
-Stays-then one two = record {
-  start = two.start ∙ one.start;
-  own = λ a inside. two.own a (omega (arith, one.start)) ∙ one.own a inside;
-  here = λ a inside is. two.here a (omega (arith, one.start)) (one.here a inside is);
-}
+Stays-then one two = grind arith
 
 pub Stays-same : (m n : Space) → n.start ≡ m.start → n.out ≡ m.out → Stays m n
 Stays-same m n start out = record { start = start; own = own-same m n start out; here = λ a inside is. out-same m n a start out ∙ is }

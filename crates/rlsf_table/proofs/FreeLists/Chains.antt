@@ -49,12 +49,7 @@ Links-same m n p (f ∷ fs) head same links =
 -- words that are no links of a list were written
 pub Links-Rewrites : {m n : Space} {at : ℕ → Type 0} (p : ℕ) (free : List Range) (head : ℕ) → Rewrites m n at → ((f : Range) → IsIn f free → CanBeBlock m f)
     → ((f : Range) → IsIn f free → ¬ at (f.start + 16) × ¬ at (f.start + 24)) → Links m p free head → Links n p free head
-Links-Rewrites {m} {n} p free head h placed other links =
-    Links-same m n p free head (λ f i.
-    let here = placed f i in (
-      h.words (f.start + 16) (omega (arith, here.whole)) (omega (arith, here.lies_in)) (other f i).0,
-      h.words (f.start + 24) (omega (arith, here.whole)) (omega (arith, here.lies_in)) (other f i).1,
-    )) links
+Links-Rewrites {m} {n} p free head h placed other links = grind (arith, Links-same)
 
 -- a list is hung behind another block: the word that names the block before its first one is another one
 pub Links-hung : (m n : Space) (p q : ℕ) (free : List Range) (head : ℕ) → ((f : Range) → IsIn f free → CanBeBlock m f) → ((a : ℕ) → coverage itself free a ≤ 1)

@@ -12,7 +12,7 @@ use Rattle.rlsf_table.specs.FreeList.{Links}
 use Rattle.rlsf_table.specs.Rewrites.{CanBeBlock, Rewrites}
 use Rattle.rlsf_table.specs.Steps.ClassList.{IsFreeList}
 use Rattle.rlsf_table.specs.FreeTable.{IsFreeTable, IsRoom}
-use Rattle.rlsf_table.specs.Table.{Table, head_at, of_class, HasTable}
+use Rattle.rlsf_table.specs.Table.{Table, HasTable}
 use Rattle.rlsf_table.proofs.FreeLists.Chains.{Links-same}
 
 module _ (m n : Space) (start : n.start ≡ m.start) (bytes : n.bytes ≡ m.bytes) (out : n.out ≡ m.out) where
@@ -40,74 +40,26 @@ module _ (m n : Space) (start : n.start ≡ m.start) (bytes : n.bytes ≡ m.byte
   Links-counted previous free head links = Links-same m n previous free head (λ f i. (word_at-counted (f.start + 16), word_at-counted (f.start + 24))) links
 
   pub HasTable-counted : {fllen sllen : ℕ} {t : Table} {free : List Range} → HasTable fllen sllen m t free → HasTable fllen sllen n t free
-  HasTable-counted {fllen} {sllen} {t} {free} h = record {
-    bits = h.bits;
-    lists = record {
-      rows = h.lists.rows;
-      places = h.lists.places;
-      links = λ fl sl row place. Links-counted 0 (of_class sllen fl sl free) (head_at t fl sl) (h.lists.links fl sl row place);
-    };
-  }
+  HasTable-counted {fllen} {sllen} {t} {free} h = grind (arith, Links-counted)
 
   -- no word was written
   pub Rewrites-counted : (at : ℕ → Type 0) → Rewrites m n at
-  Rewrites-counted at =
-      record {
-        start = start;
-        length = length-counted;
-        none = λ is. out ∙ is;
-        own = own-same m n start out;
-        here = λ a inside is. out-same m n a start out ∙ is;
-        kept = λ a inside apart. out-same m n a start out;
-        words = λ a whole inside other. word_at-counted a;
-        bytes = λ r inside apart. bytes_in-counted r;
-      }
+  Rewrites-counted at = grind (arith, length-counted, own-same, out-same, word_at-counted, bytes_in-counted)
 
   -- words were written after that, or before
   pub Rewrites-counted_first : {o : Space} {at : ℕ → Type 0} → Rewrites n o at → Rewrites m o at
-  Rewrites-counted_first h = record {
-    start = h.start ∙ start;
-    none = λ is. h.none (out ∙ is);
-    own = λ a inside. h.own a (omega (arith, start)) ∙ own-same m n start out a inside;
-    here = λ a inside is. h.here a (omega (arith, start)) (out-same m n a start out ∙ is);
-    kept = λ a inside apart. h.kept a (omega (arith, start)) apart ∙ out-same m n a start out;
-    length = h.length ∙ length-counted;
-    words = λ a whole inside other. h.words a whole (omega (arith, start)) other ∙ word_at-counted a;
-    bytes = λ r inside apart. h.bytes r (omega (arith, start)) apart ∙ bytes_in-counted r;
-  }
+  Rewrites-counted_first h = grind (arith, own-same, out-same, length-counted, word_at-counted, bytes_in-counted)
 
   pub Rewrites-counted_last : {o : Space} {at : ℕ → Type 0} → Rewrites o m at → Rewrites o n at
-  Rewrites-counted_last h = record {
-    start = start ∙ h.start;
-    none = λ is. out ∙ h.none is;
-    own = λ a inside. own-same m n start out a (omega (arith, h.start)) ∙ h.own a inside;
-    here = λ a inside is. out-same m n a start out ∙ h.here a inside is;
-    kept = λ a inside apart. out-same m n a start out ∙ h.kept a inside apart;
-    length = length-counted ∙ h.length;
-    words = λ a whole inside other. word_at-counted a ∙ h.words a whole inside other;
-    bytes = λ r inside apart. bytes_in-counted r ∙ h.bytes r inside apart;
-  }
+  Rewrites-counted_last h = grind (arith, own-same, out-same, length-counted, word_at-counted, bytes_in-counted)
 
   -- ---- the free blocks
 
   pub CanBeBlock-counted : {f : Range} → CanBeBlock m f → CanBeBlock n f
-  CanBeBlock-counted {f} p =
-      record {
-        own = own-there m n f p.lies_in.0 (own-same m n start out) p.own;
-        some = p.some;
-        whole = p.whole;
-        room = p.room;
-        lies_in = (omega (arith, start, p.lies_in), omega (arith, start, length-counted, p.lies_in));
-      }
+  CanBeBlock-counted {f} p = grind (arith, own-there, own-same, length-counted)
 
   pub IsFreeList-counted : {head : ℕ} {free : List Range} → IsFreeList m head free → IsFreeList n head free
-  IsFreeList-counted {head} {free} h = record {
-    links = Links-counted 0 free head h.links;
-    placed = λ f i. CanBeBlock-counted (h.placed f i);
-    apart = h.apart;
-    sizes = λ f i. word_at-counted f.start ∙ h.sizes f i;
-    addressable = omega (arith, start, length-counted, h.addressable);
-  }
+  IsFreeList-counted {head} {free} h = grind (arith, Links-counted, CanBeBlock-counted, word_at-counted, length-counted)
 
   pub IsFreeTable-counted : {fllen sllen : ℕ} {t : Table} {free : List Range} → IsFreeTable fllen sllen m t free → IsFreeTable fllen sllen n t free
   IsFreeTable-counted h = record {

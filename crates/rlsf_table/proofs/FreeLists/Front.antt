@@ -13,10 +13,7 @@ use Rattle.rlsf_table.proofs.FreeLists.Chains.{first_of, head-whole, Links-hung,
 
 -- where the link lies that names the block before a list's first one, or before the block itself, is a multiple of 32
 pub own-whole : {first block at : ℕ} → IsFirstOrOwn first block at → first % 32 ≡ 0 → block % 32 ≡ 0 → at % 32 ≡ 0
-own-whole {first} is first_whole block_whole = elim (cases_eq first 0) [
-  | inl none ↦ omega (arith, is.none none)
-  | inr some ↦ omega (arith, is.some some)
-]
+own-whole {first} is first_whole block_whole = grind (arith, cases_eq)
 
 -- the three writes that put the block at `block` in front of the list that begins with `newest`: the link at `at` is that of
 -- its first block, or the block's own, which is written again
@@ -35,10 +32,7 @@ newest_placed {m} {newest} {free} list some = let first = first_of m 0 free newe
 -- so is the one whose link is written
 pub own_placed : {m : Space} {newest block at : ℕ} {r : Range} {free : List Range} → IsFreeList m newest free → r.start ≡ block → CanBeBlock m r
     → IsFirstOrOwn newest block at → (f : Range) × (f.start ≡ at) × CanBeBlock m f
-own_placed {newest = newest} {r = r} list place placed own = elim (cases_eq newest 0) [
-  | inl none ↦ (r, place ∙ sym (own.none none), placed)
-  | inr some ↦ let first = newest_placed list some in (first.0, first.1 ∙ sym (own.some some), first.2)
-]
+own_placed {newest = newest} {r = r} list place placed own = grind (arith, cases_eq, newest_placed)
 
 module _ (m n : Space) (newest block at : ℕ) (r : Range) (free : List Range) (place : r.start ≡ block) (list : IsFreeList m newest free) (placed : CanBeBlock m r)
     (apart : (a : ℕ) → coverage itself (r ∷ free) a ≤ 1) (fronts : Fronts m n newest block at) where
@@ -60,35 +54,17 @@ module _ (m n : Space) (newest block at : ℕ) (r : Range) (free : List Range) (
 
   -- a word that isn't written
   word_at-front : (a : ℕ) → a % 8 ≡ 0 → m.start ≤ a → a ≢ block + 16 → a ≢ block + 24 → (newest ≢ 0 → a ≢ newest + 24) → word_at n a ≡ word_at m a
-  word_at-front a whole inside x y z =
-      let one = fronts.next.rewrites in
-      let two = fronts.back.rewrites in
-      let other : a ≢ at + 24 = λ e. elim (cases_eq newest 0) [
-        | inl none ↦ y (e ∙ ap (λ b. b + 24) (fronts.own.none none))
-        | inr some ↦ z some (e ∙ ap (λ b. b + 24) (fronts.own.some some))
-      ] in
-      fronts.previous.rewrites.words a whole (omega (arith, one.start, two.start)) (λ h. y h.1)
-      ∙ two.words a whole (omega (arith, one.start)) (λ h. other h.1) ∙ one.words a whole inside (λ h. x h.1)
+  word_at-front a whole inside x y z = grind (arith, cases_eq)
 
   word_at-front_next : word_at n (block + 16) ≡ newest
-  word_at-front_next =
-      let one = fronts.next.rewrites in
-      let two = fronts.back.rewrites in
-      fronts.previous.rewrites.words (block + 16) (omega (arith, block-whole)) (omega (arith, one.start, two.start, block-whole)) (λ h. omega (arith, h.1))
-      ∙ two.words (block + 16) (omega (arith, block-whole)) (omega (arith, one.start, block-whole)) (λ h. omega (arith, h.1, block-whole, at-whole)) ∙ fronts.next.reads tt
+  word_at-front_next = grind (arith, block-whole, at-whole)
 
   word_at-front_previous : word_at n (block + 24) ≡ 0
   word_at-front_previous = fronts.previous.reads tt
 
   -- the newest block till now names the block
   word_at-front_back : newest ≢ 0 → word_at n (newest + 24) ≡ block
-  word_at-front_back some =
-      let one = fronts.next.rewrites in
-      let two = fronts.back.rewrites in
-      let first = newest_placed list some in
-      let inside : m.start ≤ newest = omega (arith, first.1, first.2.lies_in) in
-      fronts.previous.rewrites.words (newest + 24) (omega (arith, newest-whole)) (omega (arith, one.start, two.start, inside)) (λ h. newest-other some (omega (arith, h.1)))
-      ∙ ap (λ b. word_at fronts.two (b + 24)) (sym (fronts.own.some some)) ∙ fronts.back.reads tt
+  word_at-front_back some = grind (arith, newest_placed, newest-whole, newest-other)
 
   apart-behind : (a : ℕ) → coverage itself free a ≤ 1
   apart-behind a = omega (arith, apart a)

@@ -22,8 +22,7 @@ module _ {fl_bits sl_bits fllen sllen : ℕ} {r : Range} (valid : IsValid fl_bit
   -- the indices that a size's class has
   IsClassAt-indices : (fl sl : ℕ) → fl ≡ (class_of sllen r.len).exponent - 5 → sl ≡ (class_of sllen r.len).division → IsClassAt fllen sllen r.len fl sl
   IsClassAt-indices fl sl fl_is sl_is =
-      let c = class_of sllen r.len in
-      let exponent : c.exponent ≡ 5 + fl = omega (arith, exponent-le) in
+      let exponent : (class_of sllen r.len).exponent ≡ 5 + fl = omega (arith, exponent-le) in
       record {
         row = omega (arith, free.valid, exponent);
         place = omega (arith, sl_is, division-lt sllen r.len free.some (IsPower-row_length sllen valid.power_of_two).some);

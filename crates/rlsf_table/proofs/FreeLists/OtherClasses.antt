@@ -1,5 +1,5 @@
 -- The links of one class were written: the lists of the other classes are as they were.
-use Rattle.std.proofs.Common.{◌≡◌, ℕ, ◌+◌, ◌≤◌, List, arith, inl, inr, subst, sym, ◌∙◌, ap}
+use Rattle.std.proofs.Common.{◌≡◌, ℕ, ◌+◌, ◌≤◌, List, arith, ap}
 use Rattle.std.proofs.lemmas.Bool.{cases_eq}
 use Rattle.rlsf_base.specs.SizeClass.{class_of, class_at}
 use Rattle.rlsf_base.specs.declared.memory.range.Range.{Range}
@@ -21,10 +21,7 @@ class_at-injective fl sl i j same =
 
 -- what is true of the class at two indices, and of every other one
 pub each_class : (P : ℕ → ℕ → Type 0) (fl sl : ℕ) → P fl sl → ((i j : ℕ) → ¬ ((i ≡ fl) × (j ≡ sl)) → P i j) → (i j : ℕ) → P i j
-each_class P fl sl here other i j = elim (cases_eq i fl) [
-  | inl row ↦ elim (cases_eq j sl) [ inl place ↦ subst (λ a. P a j) (sym row) (subst (P fl) (sym place) here) | inr apart ↦ other i j (λ h. apart h.1) ]
-  | inr apart ↦ other i j (λ h. apart h.0)
-]
+each_class P fl sl here other i j = grind (arith, cases_eq)
 
 -- `all` are placed blocks that don't overlap, of which those in `written` have the class at fl and sl
 module _ {m n : Space} (sllen fl sl : ℕ) (all written : List Range) (placed : (f : Range) → IsIn f all → CanBeBlock m f) (apart : (a : ℕ) → coverage itself all a ≤ 1)
@@ -32,17 +29,7 @@ module _ {m n : Space} (sllen fl sl : ℕ) (all written : List Range) (placed : 
   -- a block of another class has no link of theirs
   no_link : (i j : ℕ) → ¬ ((i ≡ fl) × (j ≡ sl)) → (f : Range) → IsIn f all → class_of sllen f.len ≡ class_at i j
       → ¬ IsLink written (f.start + 16) × ¬ IsLink written (f.start + 24)
-  no_link i j other f in_all class =
-      let here = placed f in_all in
-      let differ : (g : Range) → IsIn g written → f.start ≡ g.start → ⊥ = λ g k start.
-      let there = among g k in
-      let same : f ≡ g = starts_apart all f g apart in_all there.0 (omega (arith, here.room)) (omega (arith, (placed g there.0).room)) start in
-      other (class_at-injective fl sl i j (sym class ∙ ap (λ r. class_of sllen r.len) same ∙ there.1)) in (
-        (λ link. let there = placed link.0 (among link.0 link.1).0 in
-            elim link.2 [ inl e ↦ differ link.0 link.1 (omega (arith, e)) | inr e ↦ omega (arith, e, here.whole, there.whole) ]),
-        (λ link. let there = placed link.0 (among link.0 link.1).0 in
-            elim link.2 [ inl e ↦ omega (arith, e, here.whole, there.whole) | inr e ↦ differ link.0 link.1 (omega (arith, e)) ]),
-      )
+  no_link i j other f in_all class = grind (arith, starts_apart, class_at-injective)
 
   -- the list of another class
   pub Links-other_class : (i j : ℕ) → ¬ ((i ≡ fl) × (j ≡ sl)) → (free : List Range) → ((f : Range) → IsIn f free → IsIn f all) → (head : ℕ)

@@ -28,14 +28,7 @@ module _ {m : Space} {newest : ℕ} {free : List Range} (r : Range) (i : IsIn r 
       list.addressable (Links-behind m 0 parts.0 r parts.1 newest links)
 
   previous-fits : word_at m (r.start + 24) < 2 ^ 64
-  previous-fits =
-      let parts = IsIn-split r free i in
-      let links : Links m 0 (parts.0 ++ (r ∷ parts.1)) newest = subst (λ l. Links m 0 l newest) parts.2 list.links in
-      elim (previous_of m 0 parts.0 r parts.1 newest links) [
-        | inl none ↦ omega (arith, none)
-        | inr w ↦ let is = list.placed w.0 (subst (λ l. IsIn w.0 l) (sym parts.2) (IsIn-append_left w.0 parts.0 (r ∷ parts.1) w.1)) in
-            omega (arith, w.2, is.lies_in, is.room, list.addressable)
-      ]
+  previous-fits = grind (arith, IsIn-split, previous_of, IsIn-append_left)
 
   pub next_word : {block : ℕ} → r.start ≡ block → IsReadable m (block + 16)
   next_word {block} place =

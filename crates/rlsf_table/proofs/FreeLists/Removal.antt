@@ -22,11 +22,7 @@ pub Links-cut : (m n : Space) (p : ℕ) (b : Range) (bs : List Range) (r : Range
     → word_at n (previous + 16) ≡ next
     → Links n previous after next
     → Links m p ((b ∷ bs) ++ (r ∷ after)) head → Links n p ((b ∷ bs) ++ after) head
-Links-cut m n p b [] r after head next previous is some apart backs nexts last tail links =
-    let here : previous ≡ b.start = is ∙ links.2.1 in
-    let forth : word_at n (b.start + 16) ≡ next = ap (λ a. word_at n (a + 16)) (sym here) ∙ last in
-    let hung : Links n b.start after next = subst (λ q. Links n q after next) here tail in
-    (links.0, backs b (inl refl) ∙ links.1, subst (λ w. Links n b.start after w) (sym forth) hung)
+Links-cut m n p b [] r after head next previous is some apart backs nexts last tail links = grind arith
 Links-cut m n p b (c ∷ cs) r after head next previous is some apart backs nexts last tail links =
     let found = previous_in m b.start c cs r after (word_at m (b.start + 16)) links.2 in
     let other : b.start ≢ previous =
@@ -44,10 +40,7 @@ pub Links-joined : (m n : Space) (before : List Range) (r : Range) (after : List
     → (previous ≢ 0 → word_at n (previous + 16) ≡ next)
     → Links n previous after next
     → Links m 0 (before ++ (r ∷ after)) head → Links n 0 (before ++ after) result
-Links-joined m n [] r after head next previous result is first later some apart backs nexts last tail links =
-    let none : previous ≡ 0 = is ∙ links.1 in
-    let hung : Links n 0 after next = subst (λ q. Links n q after next) none tail in
-    subst (λ w. Links n 0 after w) (sym (first none)) hung
+Links-joined m n [] r after head next previous result is first later some apart backs nexts last tail links = grind arith
 Links-joined m n (b ∷ bs) r after head next previous result is first later some apart backs nexts last tail links =
     let found = previous_in m 0 b bs r after head links in
     let here : previous ≡ found.0.start = is ∙ found.2 in
@@ -109,9 +102,8 @@ module _ (m n : Space) (newest block next previous : ℕ) (r : Range) (before af
   nexts-kept : (f : Range) → IsIn f (before ++ (r ∷ after)) → f.start ≢ previous → word_at n (f.start + 16) ≡ word_at m (f.start + 16)
   nexts-kept f i other =
       let here = list.placed f i in
-      let one = cuts.back.rewrites in
-      cuts.forth.rewrites.words (f.start + 16) (omega (arith, here.whole)) (omega (arith, here.lies_in, one.start)) (λ h. other (omega (arith, h.1)))
-      ∙ one.words (f.start + 16) (omega (arith, here.whole)) (omega (arith, here.lies_in)) (λ h. omega (arith, h.1, here.whole, next-whole))
+      cuts.forth.rewrites.words (f.start + 16) (omega (arith, here.whole)) (omega (arith, here.lies_in, cuts.back.rewrites.start)) (λ h. other (omega (arith, h.1)))
+      ∙ cuts.back.rewrites.words (f.start + 16) (omega (arith, here.whole)) (omega (arith, here.lies_in)) (λ h. omega (arith, h.1, here.whole, next-whole))
 
   backs-kept : (f : Range) → IsIn f (before ++ (r ∷ after)) → f.start ≢ next → word_at n (f.start + 24) ≡ word_at m (f.start + 24)
   backs-kept f i other =
@@ -121,12 +113,7 @@ module _ (m n : Space) (newest block next previous : ℕ) (r : Range) (before af
       ∙ one.words (f.start + 24) (omega (arith, here.whole)) (omega (arith, here.lies_in)) (λ h. other (omega (arith, h.1)))
 
   back-written : next ≢ 0 → word_at n (next + 24) ≡ previous
-  back-written some =
-      let first = next-of some in
-      let one = cuts.back.rewrites in
-      cuts.forth.rewrites.words (next + 24) (omega (arith, next-whole)) (omega (arith, one.start, first.2, (placed-after first.0 first.1).lies_in))
-      (λ h. omega (arith, h.1, next-whole, previous-whole))
-      ∙ cuts.back.reads some
+  back-written some = grind (arith, next-of, next-whole, placed-after, previous-whole)
 
   hung-after : Links n previous after next
   hung-after =

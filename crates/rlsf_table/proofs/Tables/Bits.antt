@@ -1,6 +1,6 @@
 -- The bits of the class table, where a range is put in front of the free ones, or taken out from among them.
 use Rattle.std.proofs.Common.{◌≡◌, ◌≢◌, ℕ, ◌+◌, ◌<◌, ◌==◌, Bool, true, false, ◌&&◌, ◌||◌, not, true≢false, List, ◌∷◌, ◌++◌, length}
-use Rattle.std.proofs.Common.{slice_index, arith, refl, sym, ◌∙◌, ap, subst, inl, inr}
+use Rattle.std.proofs.Common.{slice_index, arith, refl, sym, ◌∙◌, ap, inl}
 use Rattle.std.specs.List.{list_any}
 use Rattle.std.proofs.Math.Bool.{or_comm, and-true}
 use Rattle.std.proofs.lemmas.Bool.{cases_eq, eq-eqb, ne_eqb, and_from, and_left, and_right}
@@ -91,16 +91,10 @@ module _ (fllen sllen fl sl : ℕ) (t u : Table) (r : Range) (free : List Range)
     (bits : HasBits fllen sllen t free) where
   -- the row and the place of the range are those whose bits are set
   put_row : (i : ℕ) → (i == fl) ≡ is_in_row sllen i r
-  put_row i = elim (cases_eq i fl) [
-    | inl same ↦ eq-eqb i fl same ∙ sym (subst (λ j. is_in_row sllen j r ≡ true) (sym same) (is_in_row-own sllen fl sl r class))
-    | inr apart ↦ ne_eqb i fl apart ∙ sym (is_in_row-other sllen fl sl r class i apart)
-  ]
+  put_row i = grind (arith, cases_eq, eq-eqb, is_in_row-own, ne_eqb, is_in_row-other)
 
   put_place : (k : ℕ) → (k == sl) ≡ has_class sllen (class_at fl k) r
-  put_place k = elim (cases_eq k sl) [
-    | inl same ↦ eq-eqb k sl same ∙ sym (subst (λ j. has_class sllen (class_at fl j) r ≡ true) (sym same) (has_class-own sllen fl sl r class))
-    | inr apart ↦ ne_eqb k sl apart ∙ sym (has_class-other_place sllen fl sl r class fl k apart)
-  ]
+  put_place k = grind (arith, cases_eq, eq-eqb, has_class-own, ne_eqb, has_class-other_place)
 
   -- the bits of the row of the range, and then all
   put_own : (k : ℕ) → fl < fllen → bit (slice_index u.second_level fl) k ≡ list_any (has_class sllen (class_at fl k)) (r ∷ free)
@@ -109,18 +103,7 @@ module _ (fllen sllen fl sl : ℕ) (t u : Table) (r : Range) (free : List Range)
       set.second k ∙ ap (λ b. b || k == sl) (bits.second fl k within) ∙ or_comm rest (k == sl) ∙ ap (λ b. b || rest) (put_place k)
 
   pub HasBits-put : HasBits fllen sllen u (r ∷ free)
-  HasBits-put = record {
-    rows = set.rows;
-    first = λ i. let rest = list_any (is_in_row sllen i) free in
-        set.first i ∙ ap (λ b. b || i == fl) (bits.first i) ∙ or_comm rest (i == fl) ∙ ap (λ b. b || rest) (put_row i);
-    second = λ i k within. elim (cases_eq i fl) [
-      | inl same ↦ subst (λ j. bit (slice_index u.second_level j) k ≡ list_any (has_class sllen (class_at j k)) (r ∷ free)) (sym same)
-          (put_own k (subst (λ j. j < fllen) same within))
-      | inr apart ↦
-          ap (λ n. bit n k) (set.others i within apart) ∙ bits.second i k within
-          ∙ sym (ap (λ b. b || list_any (has_class sllen (class_at i k)) free) (has_class-other_row sllen fl sl r class i k apart))
-    ];
-  }
+  HasBits-put = grind (arith, or_comm, put_row, cases_eq, slice_index, put_own, has_class-other_row)
 
 -- ---- a range taken out
 
@@ -144,21 +127,7 @@ module _ (fllen sllen fl sl : ℕ) (t u : Table) (r : Range) (before after : Lis
   HasBits-taken : bit u.first_level fl ≡ list_any (is_in_row sllen fl) (before ++ after)
       → bit (slice_index u.second_level fl) sl ≡ list_any (has_class sllen (class_at fl sl)) (before ++ after)
       → HasBits fllen sllen u (before ++ after)
-  HasBits-taken row place = record {
-    rows = cleared.rows;
-    first = λ i. elim (cases_eq i fl) [
-      | inl same ↦ subst (λ j. bit u.first_level j ≡ list_any (is_in_row sllen j) (before ++ after)) (sym same) row
-      | inr apart ↦ cleared.first i apart ∙ bits.first i ∙ list_any-less_one (is_in_row sllen i) before r after (is_in_row-other sllen fl sl r class i apart)
-    ];
-    second = λ i k in_rows. elim (cases_eq i fl) [
-      | inl same ↦ subst (λ j. bit (slice_index u.second_level j) k ≡ list_any (has_class sllen (class_at j k)) (before ++ after)) (sym same) (elim (cases_eq k sl) [
-        | inl here ↦ subst (λ j. bit (slice_index u.second_level fl) j ≡ list_any (has_class sllen (class_at fl j)) (before ++ after)) (sym here) place
-        | inr apart ↦ taken_place k apart
-      ])
-      | inr apart ↦ ap (λ n. bit n k) (cleared.others i in_rows apart) ∙ bits.second i k in_rows
-          ∙ list_any-less_one (has_class sllen (class_at i k)) before r after (has_class-other_row sllen fl sl r class i k apart)
-    ];
-  }
+  HasBits-taken row place = grind (arith, cases_eq, list_any-less_one, is_in_row-other, slice_index, taken_place, has_class-other_row)
 
   -- the bits of the range that was taken out were set
   taken_row : bit t.first_level fl ≡ true
@@ -174,10 +143,7 @@ module _ (fllen sllen fl sl : ℕ) (t u : Table) (r : Range) (before after : Lis
     -- where ranges of the class are left, its bits stay
     pub HasBits-some_left : head ≢ 0 → bit u.first_level fl ≡ bit t.first_level fl → bit (slice_index u.second_level fl) sl ≡ bit (slice_index t.second_level fl) sl
         → HasBits fllen sllen u (before ++ after)
-    HasBits-some_left some row place =
-        let left : list_any (has_class sllen (class_at fl sl)) (before ++ after) ≡ true = by_test (list_any (has_class sllen (class_at fl sl)) (before ++ after))
-        (λ e. e) (λ e. absurd (some (is_head.1 (filter-none (has_class sllen (class_at fl sl)) (before ++ after) e)))) in
-        HasBits-taken (row ∙ taken_row ∙ sym (in_row-from_class sllen fl sl (before ++ after) left)) (place ∙ taken_class ∙ sym left)
+    HasBits-some_left some row place = grind (arith, by_test, filter-none, HasBits-taken, taken_row, in_row-from_class, taken_class)
 
     module _ (none : head ≡ 0) (place : bit (slice_index u.second_level fl) sl ≡ false) where
       -- no range of the class is left
@@ -186,10 +152,7 @@ module _ (fllen sllen fl sl : ℕ) (t u : Table) (r : Range) (before after : Lis
 
       -- the bit of each class in the row
       left_place : (k : ℕ) → bit (slice_index u.second_level fl) k ≡ list_any (has_class sllen (class_at fl k)) (before ++ after)
-      left_place k = elim (cases_eq k sl) [
-        | inl here ↦ subst (λ j. bit (slice_index u.second_level fl) j ≡ list_any (has_class sllen (class_at fl j)) (before ++ after)) (sym here) (place ∙ sym gone)
-        | inr apart ↦ taken_place k apart
-      ]
+      left_place k = grind (arith, cases_eq, slice_index, gone, taken_place)
 
       -- where none is left, but others in its row, the row's bit stays
       pub HasBits-row_left : slice_index u.second_level fl ≢ 0 → bit u.first_level fl ≡ bit t.first_level fl → HasBits fllen sllen u (before ++ after)

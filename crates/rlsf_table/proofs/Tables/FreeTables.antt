@@ -1,5 +1,5 @@
 -- The class table of the free blocks: with a block put in front, without a block, and once other words were written.
-use Rattle.std.proofs.Common.{◌≡◌, ℕ, ◌+◌, ◌^◌, ◌<◌, ◌≤◌, List, ◌∷◌, ◌++◌, length, arith, inl, ◌∙◌}
+use Rattle.std.proofs.Common.{◌≡◌, ℕ, ◌+◌, ◌^◌, ◌<◌, ◌≤◌, List, ◌∷◌, ◌++◌, length, arith, ◌∙◌}
 use Rattle.rlsf_base.specs.declared.memory.range.Range.{Range}
 use Rattle.rlsf_base.specs.Space.{Space, word_at}
 use Rattle.rlsf_model.specs.Lists.{IsIn}
@@ -18,15 +18,7 @@ use Rattle.rlsf_table.proofs.Words.Writes.{before_links, CanBeBlock-Rewrites}
 IsFreeTable-IsLink : {fllen sllen : ℕ} {m n : Space} {u : Table} (links free : List Range) → ((f : Range) → IsIn f links → CanBeBlock m f) → Rewrites m n (IsLink links)
     → ((f : Range) → IsIn f free → IsIn f links) → ((f : Range) → IsIn f free → IsFree fllen sllen f) → ((a : ℕ) → coverage itself free a ≤ 1)
     → ((f : Range) → IsIn f free → word_at m f.start ≡ f.len) → m.start + length m.bytes < 2 ^ 64 → HasTable fllen sllen n u free → IsFreeTable fllen sllen n u free
-IsFreeTable-IsLink links free placed rewrites among blocks apart sizes addressable table = record {
-  table = table;
-  blocks = blocks;
-  placed = λ f i. CanBeBlock-Rewrites rewrites (placed f (among f i));
-  apart = apart;
-  sizes =
-      λ f i. (let here = placed f (among f i) in before_links links (λ g j. (placed g j).whole) rewrites f.start (inl here.whole) (omega (arith, here.lies_in))) ∙ sizes f i;
-  addressable = omega (arith, rewrites.start, rewrites.length, addressable);
-}
+IsFreeTable-IsLink links free placed rewrites among blocks apart sizes addressable table = grind (arith, CanBeBlock-Rewrites, before_links)
 
 -- the table without a block
 pub IsFreeTable-removal : {fllen sllen : ℕ} {m n : Space} {t u : Table} (before : List Range) (r : Range) (after : List Range)

@@ -1,6 +1,6 @@
 -- The heads of the class table, one of which is written.
 use Rattle.std.proofs.Common.{◌≡◌, ◌≢◌, ℕ, ◌<◌, List, [], length, slice_index, slice_index_or, slice_set, get_or-set_same, get_or-set_other, length-set, arith}
-use Rattle.std.proofs.Common.{◌∙◌, ap, refl, subst, inl, inr}
+use Rattle.std.proofs.Common.{◌∙◌, ap, refl, subst}
 use Rattle.std.proofs.lemmas.Bool.{cases_eq}
 use Rattle.rlsf_table.specs.Table.{Table, HasPlaces, IsHeadSet}
 
@@ -16,20 +16,7 @@ module _ (fllen sllen fl sl head : ℕ) (t u : Table) (row_within : fl < fllen) 
 
   -- a written head is the only one that changed
   pub IsHeadSet-written : IsHeadSet fllen sllen t u fl sl head
-  IsHeadSet-written = record {
-    rows = ap length written ∙ length-set t.heads fl (slice_set (slice_index_or t.heads fl []) sl head) ∙ rows;
-    places = λ i within. elim (cases_eq i fl) [
-      | inl same ↦ rw same (ap length row_written ∙ length-set (slice_index_or t.heads fl []) sl head ∙ places fl row_within)
-      | inr apart ↦ ap length (row_other i apart) ∙ places i within
-    ];
-    set = ap (λ row. slice_index row sl) row_written ∙ get_or-set_same (slice_index_or t.heads fl []) sl head 0 (let long = places fl row_within in omega arith);
-    others = λ i j row place other. elim (cases_eq i fl) [
-      | inl same ↦
-          let apart : j ≢ sl = λ here. other (same, here) in
-          rw same (ap (λ row. slice_index row j) row_written ∙ get_or-set_other (slice_index_or t.heads fl []) sl j head 0 apart)
-      | inr apart ↦ ap (λ row. slice_index row j) (row_other i apart)
-    ];
-  }
+  IsHeadSet-written = grind (arith, length-set, slice_set, slice_index_or, cases_eq, row_written, row_other, slice_index, get_or-set_same, get_or-set_other)
 
 -- the same of the table that a value represented when it was opened
 pub IsHeadSet-opened : (fllen sllen fl sl head : ℕ) (inside t u : Table) → inside ≡ t → fl < fllen → sl < sllen → length inside.heads ≡ fllen

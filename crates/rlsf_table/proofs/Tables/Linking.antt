@@ -1,5 +1,5 @@
 -- The class table once a block was linked in front of the list of its class, or taken out of it.
-use Rattle.std.proofs.Common.{◌≡◌, ◌≢◌, ◌↔◌, ℕ, ◌<◌, ◌≤◌, false, List, [], ◌∷◌, ◌++◌, arith, inl, inr, refl, sym, ◌∙◌, ap, subst}
+use Rattle.std.proofs.Common.{◌≡◌, ◌≢◌, ◌↔◌, ℕ, ◌<◌, ◌≤◌, false, List, [], ◌∷◌, ◌++◌, arith, inl, inr, refl, sym, ◌∙◌, subst}
 use Rattle.std.proofs.lemmas.Bool.{false_from_ne_true}
 use Rattle.rlsf_base.specs.SizeClass.{class_of, class_at}
 use Rattle.rlsf_base.specs.declared.memory.range.Range.{Range}
@@ -24,13 +24,7 @@ use Rattle.rlsf_table.proofs.Words.Writes.{Rewrites-weaken}
 -- the free blocks of a class are a list of free blocks
 pub IsFreeList-of_class : {fllen sllen : ℕ} {m : Space} {t : Table} {free : List Range} → IsFreeTable fllen sllen m t free → (fl sl : ℕ) → fl < fllen → sl < sllen
     → IsFreeList m (head_at t fl sl) (of_class sllen fl sl free)
-IsFreeList-of_class {fllen} {sllen} {m} {t} {free} list fl sl row place = record {
-  links = list.table.lists.links fl sl row place;
-  placed = λ f i. list.placed f (IsIn-of_class sllen fl sl f free i).0;
-  apart = λ a. omega (arith, list.apart a, coverage-of_class sllen fl sl free a);
-  sizes = λ f i. list.sizes f (IsIn-of_class sllen fl sl f free i).0;
-  addressable = list.addressable;
-}
+IsFreeList-of_class {fllen} {sllen} {m} {t} {free} list fl sl row place = grind (arith, IsIn-of_class, coverage-of_class)
 
 -- and where it begins may be given by an equation
 pub IsFreeList-of_class_from : {fllen sllen : ℕ} {m : Space} {t : Table} {free : List Range} → IsFreeTable fllen sllen m t free → (fl sl : ℕ) → fl < fllen → sl < sllen
@@ -53,10 +47,7 @@ module _ {fllen sllen : ℕ} {m : Space} {t : Table} {r : Range} {free : List Ra
 
   -- the blocks of the class are free blocks, and of that class
   among-front : (f : Range) → IsIn f (r ∷ of_class sllen fl sl free) → IsIn f (r ∷ free) × (class_of sllen f.len ≡ class_at fl sl)
-  among-front f i = elim i [
-    | inl e ↦ (inl e, ap (λ x. class_of sllen x.len) e ∙ at.class)
-    | inr j ↦ let is = IsIn-of_class sllen fl sl f free j in (inr is.0, has_class-true sllen (class_at fl sl) f is.1)
-  ]
+  among-front f i = grind (arith, IsIn-of_class, has_class-true)
 
   placed-front : (f : Range) → IsIn f (r ∷ free) → CanBeBlock m f
   placed-front f i = elim i [ inl e ↦ subst (λ x. CanBeBlock m x) (sym e) room.placed | inr j ↦ room.list.placed f j ]

@@ -27,10 +27,7 @@ module _ {fllen sllen : ℕ} {t : Table} {free : List Range} (any : 0 < sllen) (
 
   pub place_bit : (f : Range) → IsIn f free → (row : ℕ) → row < fllen → (class_of sllen f.len).exponent ≡ 5 + row
       → bit (slice_index t.second_level row) (class_of sllen f.len).division ≡ true
-  place_bit f i row within at =
-      let place = (class_of sllen f.len).division in
-      let class : class_of sllen f.len ≡ class_at row place = ap (λ k. record { exponent = k; division = place }) at in
-      bits.second row place within ∙ list_any-true (has_class sllen (class_at row place)) free f i (has_class-from sllen (class_at row place) f class)
+  place_bit f i row within at = grind (arith, list_any-true, has_class-from)
 
   -- a range of a class whose bit is set
   pub range_of_place : (row place : ℕ) → row < fllen → bit (slice_index t.second_level row) place ≡ true
@@ -132,7 +129,4 @@ scanned_places-many sllen many = cond-false (nat_le sllen 64) 64 128 (lt-leb sll
 
 -- no place of a row is left out
 pub scanned_places-whole_row : (sllen : ℕ) → sllen ≤ 128 → sllen ≤ scanned_places sllen
-scanned_places-whole_row sllen within = elim (cases_lt 64 sllen) [
-  | inl many ↦ omega (arith, scanned_places-many sllen many)
-  | inr few ↦ omega (arith, scanned_places-few sllen few)
-]
+scanned_places-whole_row sllen within = grind (arith, cases_lt, scanned_places-many, scanned_places-few)

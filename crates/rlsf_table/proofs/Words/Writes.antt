@@ -1,5 +1,5 @@
 -- Words that were written, one after another, and the words of placed blocks.
-use Rattle.std.proofs.Common.{◌≡◌, ℕ, ◌+◌, ◌%◌, ◌^◌, ◌<◌, ◌≤◌, ◌⊎◌, List, length, arith, inl, inr, refl, sym, ◌∙◌, subst}
+use Rattle.std.proofs.Common.{◌≡◌, ℕ, ◌+◌, ◌%◌, ◌^◌, ◌<◌, ◌≤◌, ◌⊎◌, List, length, arith, inl, inr, refl, sym, subst}
 use Rattle.rlsf_base.specs.declared.memory.range.Range.{Range}
 use Rattle.rlsf_base.specs.Space.{Space, word_range, word_at, with_word}
 use Rattle.rlsf_base.specs.OpenSpace.{IsWritable, SameOwn, out_with}
@@ -9,17 +9,7 @@ use Rattle.rlsf_table.specs.Rewrites.{IsLink, CanBeBlock, Rewrites}
 use Rattle.rlsf_model.specs.Lists.{IsIn}
 
 pub Rewrites-refl : (m : Space) (at : ℕ → Type 0) → Rewrites m m at
-Rewrites-refl m at =
-    record {
-      start = refl;
-      length = refl;
-      none = λ is. is;
-      own = λ a inside. refl;
-      here = λ a inside is. is;
-      kept = λ a inside apart. refl;
-      words = λ a whole inside other. refl;
-      bytes = λ r inside apart. refl;
-    }
+Rewrites-refl m at = grind arith
 
 -- one word was written
 pub Rewrites-word : (m n : Space) (addr word : ℕ) → IsWritable m addr → n.start ≡ m.start → n.bytes ≡ with_word m addr word → n.out ≡ out_with m (word_range addr)
@@ -36,30 +26,10 @@ Rewrites-word m n addr word placed start bytes out = record {
 }
 
 pub Rewrites-weaken : {m n : Space} {P Q : ℕ → Type 0} → ((a : ℕ) → P a → Q a) → Rewrites m n P → Rewrites m n Q
-Rewrites-weaken more h = record {
-  start = h.start;
-  none = h.none;
-  own = h.own;
-  here = h.here;
-  kept = λ a inside apart. h.kept a inside (λ b p. apart b (more b p));
-  length = h.length;
-  words = λ a whole inside other. h.words a whole inside (λ p. other (more a p));
-  bytes = λ r inside apart. h.bytes r inside (λ a p. apart a (more a p));
-}
+Rewrites-weaken more h = grind arith
 
 pub Rewrites-trans : {m n o : Space} {P Q : ℕ → Type 0} → Rewrites m n P → Rewrites n o Q → Rewrites m o (λ a. P a ⊎ Q a)
-Rewrites-trans {m} {n} h k =
-    let same : n.start ≡ m.start = h.start in
-    record {
-      start = k.start ∙ h.start;
-      none = λ is. k.none (h.none is);
-      own = λ a inside. k.own a (omega arith) ∙ h.own a inside;
-      here = λ a inside is. k.here a (omega arith) (h.here a inside is);
-      kept = λ a inside apart. k.kept a (omega arith) (λ b q. apart b (inr q)) ∙ h.kept a inside (λ b p. apart b (inl p));
-      length = k.length ∙ h.length;
-      words = λ a whole inside other. k.words a whole (omega arith) (λ q. other (inr q)) ∙ h.words a whole inside (λ p. other (inl p));
-      bytes = λ r inside apart. k.bytes r (omega arith) (λ a q. apart a (inr q)) ∙ h.bytes r inside (λ a p. apart a (inl p));
-    }
+Rewrites-trans {m} {n} h k = grind arith
 
 -- a link is 16 or 24 bytes into a block
 pub link_place : (free : List Range) → ((f : Range) → IsIn f free → f.start % 32 ≡ 0) → (a : ℕ) → IsLink free a → (a % 32 ≡ 16) ⊎ (a % 32 ≡ 24)
@@ -100,24 +70,12 @@ Writes-none m n some addr word same none =
 -- ---- placed blocks
 
 pub CanBeBlock-Rewrites : {m n : Space} {at : ℕ → Type 0} {f : Range} → Rewrites m n at → CanBeBlock m f → CanBeBlock n f
-CanBeBlock-Rewrites {m} {n} {f = f} h p =
-    record {
-      own = own-there m n f p.lies_in.0 h.own p.own;
-      some = p.some;
-      whole = p.whole;
-      room = p.room;
-      lies_in = (omega (arith, h.start, p.lies_in), omega (arith, h.start, h.length, p.lies_in));
-    }
+CanBeBlock-Rewrites {m} {n} {f = f} h p = grind (arith, own-there)
 
 -- the word at `block + i` of the block at `block`, in the memory or in another one of the same place and length; its address fits in a word
 module _ {m : Space} {f : Range} {block : ℕ} (i : ℕ) (within : i + 8 ≤ 32) (whole : i % 8 ≡ 0) (place : f.start ≡ block) (p : CanBeBlock m f) where
   pub IsWritable-at : (n : Space) → n.start ≡ m.start → length n.bytes ≡ length m.bytes → SameOwn m n → IsWritable n (block + i)
-  IsWritable-at n start same own = (
-    omega (arith, p.whole),
-    (omega (arith, p.lies_in), omega (arith, p.lies_in, p.room)),
-    own-there m n (word_range (block + i)) (omega (arith, place, p.lies_in)) own
-        (own-inside m f (word_range (block + i)) (omega (arith, place)) (omega (arith, place, p.room)) p.own),
-  )
+  IsWritable-at n start same own = grind (arith, own-there, own-inside)
 
   pub fits_at : m.start + length m.bytes < 2 ^ 64 → block + i < 2 ^ 64
   fits_at addressable = omega (arith, p.lies_in, p.room)

@@ -9,19 +9,12 @@ use Rattle.rlsf_blocks.proofs.extend.append_chunks.Goals as goal
 pub extend_chunk-requires : goal.extend_chunk-requires
 extend_chunk-requires g c =
     let (s, v, next) = c.requires.next in
-    let most = c.max_pool_size.ensures in
-    let some = c.is_some.ensures in
-    let false = c.if-is_some.false in
-    let unlimited = no_most g.row.FLLEN (cc) in
-    let (d, is, at) = found_chunk g.row.FLLEN s c.args.range unlimited (range_of c.args.memory.now) (omega (arith, c.if-len-eq0.false)) next in
+    let (d, is, at) = found_chunk g.row.FLLEN s c.args.range (no_most g.row.FLLEN (cc)) (range_of c.args.memory.now) (omega (arith, c.if-len-eq0.false)) next in
     (omega arith, (c.requires.parameters, ((s, d, v, is, at), (λ a low high. c.requires.own a low (omega (arith, high))))))
 
 pub returns-in-None : goal.returns-in-None
 returns-in-None g c =
     let fllen = g.row.FLLEN in
-    let most = c.max_pool_size.ensures in
-    let is = c.is_some.ensures in
-    let true = c.if-is_some.true in
     record {
       step = λ s v next.
           let limited = some_most fllen (cc) in
@@ -37,9 +30,6 @@ returns-in-None g c =
 pub returns-in-Some : goal.returns-in-Some
 returns-in-Some g c =
     let fllen = g.row.FLLEN in
-    let most = c.max_pool_size.ensures in
-    let is = c.is_some.ensures in
-    let true = c.if-is_some.true in
     record {
       step = λ s v next.
           let limited = some_most fllen (cc) in
@@ -54,19 +44,16 @@ returns-in-Some g c =
 
 pub returns : goal.returns
 returns g c =
-    let fllen = g.row.FLLEN in
-    let most = c.max_pool_size.ensures in
     let is = c.is_some.ensures in
-    let false = c.if-is_some.false in
     record {
       step = λ s v next.
-          let unlimited = no_most fllen (cc) in
+          let unlimited = no_most g.row.FLLEN (cc) in
           let len = c.args.range.len / 32 * 32 in
-          let (d, is, at) = found_chunk fllen s c.args.range unlimited (range_of c.args.memory.now) (omega (arith, c.if-len-eq0.false)) next in
+          let (d, is, at) = found_chunk g.row.FLLEN s c.args.range unlimited (range_of c.args.memory.now) (omega (arith, c.if-len-eq0.false)) next in
           let (stands, spare) = c.extend_chunk.ensures.step s d v is at in
-          (grown d len s, Appends-grown fllen s c.args.range unlimited len d refl is at, stands, spare);
+          (grown d len s, Appends-grown g.row.FLLEN s c.args.range unlimited len d refl is at, stands, spare);
       unchanged = λ none. absurd (c.if-len-eq0.false none);
-      costs = Costs-grown fllen c.args.range (cc) c.extend_chunk.ensures.costs;
+      costs = Costs-grown g.row.FLLEN c.args.range (cc) c.extend_chunk.ensures.costs;
       own = c.extend_chunk.ensures.own;
       here = c.extend_chunk.ensures.here;
     }

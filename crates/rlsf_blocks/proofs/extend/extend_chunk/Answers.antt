@@ -71,15 +71,14 @@ pub deallocate_block-requires : goal.deallocate_block-requires
 deallocate_block-requires g c =
     let (s, d, v, is, at) = c.requires.extensible in
     let len = c.args.len in
-    let n = c.set_word-3.new.self in
     let writes = written g (goal.at.deallocate_block-requires g c).After-set_word-3 d v is at in (
       omega arith,
       (
         c.requires.parameters,
         (
           (
-            lengthened d len (more_bytes n d len) s,
-            more_block d len (more_bytes n d len),
+            lengthened d len (more_bytes c.set_word-3.new.self d len) s,
+            more_block d len (more_bytes c.set_word-3.new.self d len),
             StandsFor-lengthened v d len is writes (owned c.args.memory.now d c.args.end c.args.len c.requires.own at),
             inl refl,
             ap (λ e. e - 32) at,
@@ -93,9 +92,6 @@ deallocate_block-requires g c =
 pub returns : goal.returns
 returns g c =
     let at_last = (goal.at.returns g c).After-set_word-3 in
-    let m = c.args.memory.now in
-    let n1 = c.set_word.new.self in
-    let n2 = c.set_word-2.new.self in
     let n3 = c.set_word-3.new.self in
     let one = c.set_word.ensures in
     let two = c.set_word-2.ensures in
@@ -114,9 +110,9 @@ returns g c =
           (StandsFor-lengthened v d len is writes (owned c.args.memory.now d c.args.end c.args.len c.requires.own at)) (inl refl)
           (ap (λ e. e - 32) at) (here_more v d len is writes (owned c.args.memory.now d c.args.end c.args.len c.requires.own at)));
       costs =
-          let first = Costs-written m n1 (c.args.end - 32) one.start one.len one.touches one.copied one.view one.out in
-          let second = Costs-written n1 n2 (c.args.end - 32 + c.args.len) two.start two.len two.touches two.copied two.view two.out in
-          let third = Costs-written n2 n3 (c.args.end - 32 + c.args.len + 8) three.start three.len three.touches three.copied three.view three.out in
+          let first = Costs-written c.args.memory.now c.set_word.new.self (c.args.end - 32) one.start one.len one.touches one.copied one.view one.out in
+          let second = Costs-written c.set_word.new.self c.set_word-2.new.self (c.args.end - 32 + c.args.len) two.start two.len two.touches two.copied two.view two.out in
+          let third = Costs-written c.set_word-2.new.self n3 (c.args.end - 32 + c.args.len + 8) three.start three.len three.touches three.copied three.view three.out in
           Costs-then (Costs-then (Costs-then first second) third) c.deallocate_block.ensures.costs;
       own = stays.own;
       here = stays.here;

@@ -1,4 +1,3 @@
-use Rattle.rlsf_base.specs.Range.{range_at, end_of}
 use Rattle.std.proofs.Common.{◌≡◌, ◌+◌, List, arith, rules}
 use Rattle.rlsf_base.specs.declared.memory.range.Range.{Range}
 use Rattle.rlsf_blocks.specs.Steps.Rest.{IsInnerRoom}
@@ -10,12 +9,7 @@ use Rattle.rlsf_blocks.proofs.free.put.Goals as goal
 use Rattle.rlsf_blocks.proofs.free.put.Goals.{After-set_word_at-2}
 
 pub set_word_at-requires-2-clause-place : goal.set_word_at-requires-2-clause-place
-set_word_at-requires-2-clause-place g c =
-    let (free, r, start, len, room) = c.requires.room in
-    let inside = room.room.placed.lies_in in
-    let whole = room.room.block.whole in
-    let one = placed_as c.args.memory.now c.set_word_at.new.self c.set_word_at.ensures.start c.set_word_at.ensures.len c.set_word_at.ensures.own in
-    IsWritable-in one (range_at (end_of r) 16) (omega arith, room.not_last) room.behind (c.args.block + c.args.len + 8) (omega arith) (omega arith) (omega arith)
+set_word_at-requires-2-clause-place g c = grind (arith, placed_as, IsWritable-in)
 
 -- the two words are written
 written : (g : given.Over) (c : After-set_word_at-2 g) {free : List Range} (r : Range) → IsInnerRoom g.row.FLLEN g.row.SLLEN c.args.memory.now c.args.table.now free r
@@ -33,13 +27,12 @@ link_joined_block-requires g c =
 
 pub returns : goal.returns
 returns g c =
-    let at = (goal.at.returns g c).After-set_word_at-2 in
     let n1 = c.set_word_at.new.self in
     let one = c.set_word_at.ensures in
     let two = c.set_word_at-2.ensures in
     record {
       step = λ free r start len room.
-          let writes = written g at r room start len in
+          let writes = written g ((goal.at.returns g c).After-set_word_at-2) r room start len in
           IsNewFreeBlock-written r room writes (c.link_joined_block.ensures.step r free start len (IsRoom-written r room writes)) (λ none. none);
       costs =
           let first = Costs-written c.args.memory.now n1 c.args.block one.start one.len one.touches one.copied one.view one.out in

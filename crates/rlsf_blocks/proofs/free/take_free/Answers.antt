@@ -14,14 +14,13 @@ unlink_free_block-requires g c =
 
 pub returns-else-is_free : goal.returns-else-is_free
 returns-else-is_free g c =
-    let m = c.args.memory.now in
     let n = c.load_at-size.new.self in
     let read = c.load_at-size.ensures in
     record {
       step = λ free list marked.
           IsNextOut-none list marked n read.start read.bytes read.out read.word (odd_from c.load_at-size.result c.is_free.ensures c.if-is_free.false);
       some = tt;
-      costs = Costs-within (omega arith) (Costs-loaded m n read.start read.bytes read.touches read.copied read.view read.out);
+      costs = Costs-within (omega arith) (Costs-loaded c.args.memory.now n read.start read.bytes read.touches read.copied read.view read.out);
     }
 
 pub returns-then-is_free : goal.returns-then-is_free

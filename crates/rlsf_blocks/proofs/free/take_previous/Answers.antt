@@ -20,19 +20,17 @@ load_at-previous-requires-clause-place g c =
 pub take_free-requires : goal.take_free-requires
 take_free-requires g c =
     let (s, u, v, i, at) = c.requires.used in
-    let m = c.args.memory.now in
     let n = c.load_at-previous.new.self in
     let read = c.load_at-previous.ensures in
-    let marked = IsMarked-loaded m n read.start read.bytes read.out (IsMarked-previous v u i at read.word c.if-previous-eq0.false) in
-    (omega arith, (c.requires.parameters, ((s.free, IsFreeTable-counted m n read.start read.bytes read.out (IsFreeTable-free v), marked), search rules)))
+    let marked = IsMarked-loaded c.args.memory.now n read.start read.bytes read.out (IsMarked-previous v u i at read.word c.if-previous-eq0.false) in
+    (omega arith, (c.requires.parameters, ((s.free, IsFreeTable-counted c.args.memory.now n read.start read.bytes read.out (IsFreeTable-free v), marked), search rules)))
 
 pub returns-then-previous-eq0 : goal.returns-then-previous-eq0
 returns-then-previous-eq0 g c =
-    let n = c.load_at-previous.new.self in
     let read = c.load_at-previous.ensures in
     record {
-      step = λ s u v i at. IsPreviousOut-none v u i at read.word n read.start read.bytes read.out c.if-previous-eq0.true;
-      costs = Costs-within (omega arith) (Costs-loaded c.args.memory.now n read.start read.bytes read.touches read.copied read.view read.out);
+      step = λ s u v i at. IsPreviousOut-none v u i at read.word c.load_at-previous.new.self read.start read.bytes read.out c.if-previous-eq0.true;
+      costs = Costs-within (omega arith) (Costs-loaded c.args.memory.now c.load_at-previous.new.self read.start read.bytes read.touches read.copied read.view read.out);
     }
 
 pub returns-in-Some : goal.returns-in-Some
@@ -57,10 +55,9 @@ returns-in-None g c =
     let read = c.load_at-previous.ensures in
     record {
       step = λ s u v i at.
-          let some = c.if-previous-eq0.false in
-          let marked = IsMarked-loaded m n read.start read.bytes read.out (IsMarked-previous v u i at read.word some) in
+          let marked = IsMarked-loaded m n read.start read.bytes read.out (IsMarked-previous v u i at read.word c.if-previous-eq0.false) in
           let list = IsFreeTable-counted m n read.start read.bytes read.out (IsFreeTable-free v) in
           let next = IsNextOut-loaded m n read.start read.bytes read.out (c.in-None.ensures.step s.free list marked) in
-          previous_out v u i at read.word some next (omega arith);
+          previous_out v u i at read.word c.if-previous-eq0.false next (omega arith);
       costs = Costs-then (Costs-loaded m n read.start read.bytes read.touches read.copied read.view read.out) c.in-None.ensures.costs;
     }

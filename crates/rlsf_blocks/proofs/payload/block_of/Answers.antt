@@ -1,23 +1,15 @@
 use Rattle.std.proofs.Common.{arith}
-use Rattle.rlsf_blocks.proofs.Payloads.UnknownAlignment.{IsPayloadOf-holds, IsReadable-named, fits_named, begins_first, begins_behind, begins_there}
+use Rattle.rlsf_blocks.proofs.Payloads.UnknownAlignment.{IsPayloadOf-holds, IsReadable-named, fits_named, begins_first, begins_behind, begins_there, live_one}
 use Rattle.rlsf_blocks.proofs.payload.block_of.Goals as goal
 
 pub overflow_sub-payload : goal.overflow_sub-payload
-overflow_sub-payload c =
-    let (fllen, sllen, v, s, same, stands, live) = c.requires in
-    let is = IsPayloadOf-holds live.0 same stands live.1 in
-    omega (arith, is.in_block)
+overflow_sub-payload c = omega (arith, (live_one c.requires).1.in_block)
 
 pub word-named-requires : goal.word-named-requires
-word-named-requires c =
-    let (fllen, sllen, v, s, same, stands, live) = c.requires in
-    (IsPayloadOf-holds live.0 same stands live.1).word
+word-named-requires c = (live_one c.requires).1.word
 
 pub overflow_sub-nearest : goal.overflow_sub-nearest
-overflow_sub-nearest c =
-    let (fllen, sllen, v, s, same, stands, live) = c.requires in
-    let is = IsPayloadOf-holds live.0 same stands live.1 in
-    omega (arith, is.in_block)
+overflow_sub-nearest c = omega (arith, (live_one c.requires).1.in_block)
 
 pub returns-then-named-eq0 : goal.returns-then-named-eq0
 returns-then-named-eq0 c = λ fllen sllen v s u same stands holds.
@@ -25,13 +17,11 @@ returns-then-named-eq0 c = λ fllen sllen v s u same stands holds.
 
 pub word-requires : goal.word-requires
 word-requires c =
-    let (fllen, sllen, v, s, same, stands, live) = c.requires in
-    IsReadable-named (IsPayloadOf-holds live.0 same stands live.1) c.word-named.result c.word-named.ensures c.if-named-eq0.false
+    IsReadable-named (live_one c.requires).1 c.word-named.result c.word-named.ensures c.if-named-eq0.false
 
 pub overflow_add-end : goal.overflow_add-end
 overflow_add-end c =
-    let (fllen, sllen, v, s, same, stands, live) = c.requires in
-    omega (arith, fits_named (IsPayloadOf-holds live.0 same stands live.1) c.word-named.result c.word-named.ensures c.word.result c.if-named-eq0.false c.word.ensures)
+    omega (arith, fits_named (live_one c.requires).1 c.word-named.result c.word-named.ensures c.word.result c.if-named-eq0.false c.word.ensures)
 
 pub returns-then-payload-end : goal.returns-then-payload-end
 returns-then-payload-end c = λ fllen sllen v s u same stands holds.

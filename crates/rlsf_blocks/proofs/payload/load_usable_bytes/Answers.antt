@@ -1,32 +1,26 @@
 use Rattle.std.proofs.Common.{rules, ◌-◌, arith, ap, refl, ◌∙◌}
 use Rattle.rlsf_base.specs.Space.{Space}
 use Rattle.rlsf_blocks.proofs.Deallocate.Loaded.{IsReadable-loaded, word_at-touched}
-use Rattle.rlsf_blocks.proofs.Payloads.UnknownAlignment.{IsPayloadOf-holds, IsReadable-block, sized, usable-sized}
+use Rattle.rlsf_blocks.proofs.Payloads.UnknownAlignment.{IsPayloadOf-holds, IsReadable-block, live_payload, sized, usable-sized}
 use Rattle.rlsf_blocks.proofs.payload.load_usable_bytes.Goals as goal
 
 pub load-requires : goal.load-requires
 load-requires c =
-    let (fllen, sllen, v, s, same, stands, live) = c.requires in
-    let is = IsPayloadOf-holds live.0 same stands live.1 in
-    let begins = c.load_block_of-block.ensures.block fllen sllen v s live.0 same stands live.1 in
+    let (u, is, begins) = live_payload c.requires c.load_block_of-block.ensures.block in
     let touched = c.load_block_of-block.ensures.memory in
     IsReadable-loaded c.args.memory.now c.load_block_of-block.new.memory (ap (λ (m : Space). m.start) touched) (ap (λ (m : Space). m.bytes) touched)
     (ap (λ (m : Space). m.out) touched) (IsReadable-block is c.load_block_of-block.result begins)
 
 pub used_end-end-requires : goal.used_end-end-requires
 used_end-end-requires c =
-    let (fllen, sllen, v, s, same, stands, live) = c.requires in
-    let is = IsPayloadOf-holds live.0 same stands live.1 in
-    let begins = c.load_block_of-block.ensures.block fllen sllen v s live.0 same stands live.1 in
+    let (u, is, begins) = live_payload c.requires c.load_block_of-block.ensures.block in
     let size = c.load.ensures.word ∙ word_at-touched c.args.memory.now c.load_block_of-block.new.memory 2 c.load_block_of-block.ensures.memory c.load_block_of-block.result in
     let word = sized is c.load_block_of-block.result begins c.load.result size in
     record { used = omega (arith, word, is.in_block, is.within); fits = omega (arith, word, is.ends) }
 
 pub overflow_sub-result : goal.overflow_sub-result
 overflow_sub-result c =
-    let (fllen, sllen, v, s, same, stands, live) = c.requires in
-    let is = IsPayloadOf-holds live.0 same stands live.1 in
-    let begins = c.load_block_of-block.ensures.block fllen sllen v s live.0 same stands live.1 in
+    let (u, is, begins) = live_payload c.requires c.load_block_of-block.ensures.block in
     let size = c.load.ensures.word ∙ word_at-touched c.args.memory.now c.load_block_of-block.new.memory 2 c.load_block_of-block.ensures.memory c.load_block_of-block.result in
     omega (arith, sized is c.load_block_of-block.result begins c.load.result size, is.within, c.used_end-end.ensures)
 

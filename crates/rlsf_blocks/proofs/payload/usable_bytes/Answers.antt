@@ -1,25 +1,21 @@
 use Rattle.std.proofs.Common.{◌-◌, arith, refl, ap}
-use Rattle.rlsf_blocks.proofs.Payloads.UnknownAlignment.{IsPayloadOf-holds, IsReadable-block, sized, usable-sized}
+use Rattle.rlsf_blocks.proofs.Payloads.UnknownAlignment.{IsPayloadOf-holds, IsReadable-block, live_payload, sized, usable-sized}
 use Rattle.rlsf_blocks.proofs.payload.usable_bytes.Goals as goal
 
 pub word-requires : goal.word-requires
 word-requires c =
-    let (fllen, sllen, v, s, same, stands, live) = c.requires in
-    IsReadable-block (IsPayloadOf-holds live.0 same stands live.1) c.block_of-block.result (c.block_of-block.ensures fllen sllen v s live.0 same stands live.1)
+    let (u, is, begins) = live_payload c.requires c.block_of-block.ensures in
+    IsReadable-block is c.block_of-block.result begins
 
 pub used_end-end-requires : goal.used_end-end-requires
 used_end-end-requires c =
-    let (fllen, sllen, v, s, same, stands, live) = c.requires in
-    let is = IsPayloadOf-holds live.0 same stands live.1 in
-    let begins = c.block_of-block.ensures fllen sllen v s live.0 same stands live.1 in
+    let (u, is, begins) = live_payload c.requires c.block_of-block.ensures in
     let word = sized is c.block_of-block.result begins c.word.result c.word.ensures in
     record { used = omega (arith, word, is.in_block, is.within); fits = omega (arith, word, is.ends) }
 
 pub overflow_sub-result : goal.overflow_sub-result
 overflow_sub-result c =
-    let (fllen, sllen, v, s, same, stands, live) = c.requires in
-    let is = IsPayloadOf-holds live.0 same stands live.1 in
-    let begins = c.block_of-block.ensures fllen sllen v s live.0 same stands live.1 in
+    let (u, is, begins) = live_payload c.requires c.block_of-block.ensures in
     omega (arith, sized is c.block_of-block.result begins c.word.result c.word.ensures, is.within, c.used_end-end.ensures)
 
 pub returns : goal.returns

@@ -38,17 +38,15 @@ first_fit-requires g c =
 pub returns-in_err-found : goal.returns-in_err-found
 returns-in_err-found g c =
     let at = (goal.at.returns-in_err-found g c).After-first_fit in
-    let m = c.args.memory.now in
-    let n = c.first_fit.new.memory in
     let counts = c.first_fit.ensures.counts in
-    let stays = Stays-same m n counts.start counts.out in
+    let stays = Stays-same c.args.memory.now c.first_fit.new.memory counts.start counts.out in
     record {
       step = λ s v.
           let none = sought g at s (c.in_err-found.ensures.choice s.free (IsFreeTable-free v)) in (
             s,
             subst (λ o. Allocates g.row.SLLEN s c.args.layout.size c.args.layout.align (range_start o) s) (sym c.from_residual.ensures) (none, refl),
             searched g at v,
-            KeepsSpare-counted m n counts.start counts.bytes counts.out s s,
+            KeepsSpare-counted c.args.memory.now c.first_fit.new.memory counts.start counts.bytes counts.out s s,
           );
       len = λ s v. none_some _ c.from_residual.result c.from_residual.ensures;
       unchanged = none_none c.from_residual.result (counts, refl);
@@ -73,16 +71,15 @@ place-requires g c =
 pub returns : goal.returns
 returns g c =
     let at = (goal.at.returns g c).After-first_fit in
-    let m = c.args.memory.now in
     let n = c.first_fit.new.memory in
     let counts = c.first_fit.ensures.counts in
     let placed : Stays n c.place.new.memory = record { start = c.place.ensures.costs.start; own = c.place.ensures.own; here = c.place.ensures.here } in
-    let stays = Stays-then (Stays-same m n counts.start counts.out) placed in
+    let stays = Stays-then (Stays-same c.args.memory.now n counts.start counts.out) placed in
     record {
       step = λ s v.
           let (f, chosen, start, _) = c.in_ok-found.ensures.choice s.free (IsFreeTable-free v) in
           let (t, places, now, spare) = c.place.ensures.step s f (searched g at v) (sought g at s chosen) start in
-          (t, places, now, KeepsSpare-counted_first m n counts.start counts.bytes counts.out s t c.place.new.memory spare);
+          (t, places, now, KeepsSpare-counted_first c.args.memory.now n counts.start counts.bytes counts.out s t c.place.new.memory spare);
       len = λ s v f chosen.
           let (h, found, start, _) = c.in_ok-found.ensures.choice s.free (IsFreeTable-free v) in
           c.place.ensures.len s f (searched g at v) chosen (ap (λ (r : Range). r.start) (same_Some _ _ (sym chosen ∙ sought g at s found)) ∙ start);

@@ -7,11 +7,9 @@ use Rattle.rlsf_blocks.proofs.placement.front.Goals as goal
 pub returns-else-align-ge-GRANULARITY : goal.returns-else-align-ge-GRANULARITY
 returns-else-align-ge-GRANULARITY c = record {
   payload =
-      let block = c.args.block in
       let align = c.args.layout.align in
       let power = c.args.layout.valid.aligned in
       let below : align < 2 ^ 5 = omega (arith, c.if-align-ge-GRANULARITY.false, c.align.ensures.value) in
-      let few = IsPowerOfTwo-le align 4 power below in
-      omega (arith, few, payload_of-le block align c.requires.whole power, payload_of-after block align);
+      omega (arith, IsPowerOfTwo-le align 4 power below, payload_of-le c.args.block align c.requires.whole power, payload_of-after c.args.block align);
   length = search rules;
 }

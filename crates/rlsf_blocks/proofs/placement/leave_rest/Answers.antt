@@ -26,19 +26,11 @@ written g c r room start len =
     (c.set_word_at-3.ensures.start, three, wrote_there c.set_word_at-2.new.self c.set_word_at-3.new.self (block + c.args.len + 8) c.set_word_at-3.ensures.out (omega arith))
 
 pub set_word_at-requires-2-clause-place : goal.set_word_at-requires-2-clause-place
-set_word_at-requires-2-clause-place g c =
-    let (free, r, start, len, room) = c.requires.room in
-    let placed = room.room.placed in
-    let large = placed.room in
-    let whole = room.room.block.whole in
-    let one = placed_as c.args.memory.now c.set_word_at.new.self c.set_word_at.ensures.start c.set_word_at.ensures.len c.set_word_at.ensures.own in
-    IsWritable-in one r placed.lies_in placed.own (c.args.block + c.args.taken + 8) (omega arith) (omega arith) (omega arith)
+set_word_at-requires-2-clause-place g c = grind (arith, placed_as, IsWritable-in)
 
 pub set_word_at-requires-3-clause-place : goal.set_word_at-requires-3-clause-place
 set_word_at-requires-3-clause-place g c =
     let (free, r, start, len, room) = c.requires.room in
-    let inside = room.room.placed.lies_in in
-    let whole = room.room.block.whole in
     let first = c.set_word_at.ensures in
     let second = c.set_word_at-2.ensures in
     let one = placed_as c.args.memory.now c.set_word_at.new.self first.start first.len first.own in
@@ -53,19 +45,17 @@ link_free_block-requires g c =
 
 pub returns : goal.returns
 returns g c =
-    let at = (goal.at.returns g c).After-set_word_at-3 in
-    let n1 = c.set_word_at.new.self in
     let n2 = c.set_word_at-2.new.self in
     let one = c.set_word_at.ensures in
     let two = c.set_word_at-2.ensures in
     let three = c.set_word_at-3.ensures in
     record {
       step = λ free r start len room.
-          let writes = written g at r room start len in
+          let writes = written g ((goal.at.returns g c).After-set_word_at-3) r room start len in
           IsFreeBlockBehind-written r room writes (c.link_free_block.ensures.step r free start (omega (arith, len)) (IsRoom-written r room writes)) tt;
       costs =
-          let first = Costs-written c.args.memory.now n1 (c.args.block + c.args.taken) one.start one.len one.touches one.copied one.view one.out in
-          let second = Costs-written n1 n2 (c.args.block + c.args.taken + 8) two.start two.len two.touches two.copied two.view two.out in
+          let first = Costs-written c.args.memory.now c.set_word_at.new.self (c.args.block + c.args.taken) one.start one.len one.touches one.copied one.view one.out in
+          let second = Costs-written c.set_word_at.new.self n2 (c.args.block + c.args.taken + 8) two.start two.len two.touches two.copied two.view two.out in
           let third = Costs-written n2 c.set_word_at-3.new.self (c.args.block + c.args.len + 8) three.start three.len three.touches three.copied three.view three.out in
           Costs-then (Costs-then (Costs-then first second) third) c.link_free_block.ensures.costs;
     }

@@ -35,11 +35,10 @@ front-payload-requires g c =
     let fit = fitting v f layout.size layout.align layout.valid.aligned chosen in
     let fits = placed-fits v.well_formed f layout.size layout.align layout.valid.aligned chosen in
     let address : payload_of f.start layout.align < 2 ^ 64 = omega (arith, fit.before_end, fits, place.1, v.well_formed.addressable) in
-    let length : block_length f.start (payload_of f.start layout.align) layout.size < 2 ^ 64 = omega (arith, fits, place.1, v.well_formed.addressable) in
     record {
       whole = omega (arith, fit.whole, start);
       address = subst (λ b. payload_of b layout.align < 2 ^ 64) start address;
-      length = subst (λ b. block_length b (payload_of b layout.align) layout.size < 2 ^ 64) start length;
+      length = subst (λ b. block_length b (payload_of b layout.align) layout.size < 2 ^ 64) start (omega (arith, fits, place.1, v.well_formed.addressable));
     }
 
 -- the memory whose word was read represents the same states
@@ -85,8 +84,7 @@ set_word_at-requires-clause-place g c =
     let at = goal.at.set_word_at-requires-clause-place g c in
     let stands = loaded g at.After-load_at-len v in
     let are = computed g at.After-front-payload stands f chosen start in
-    let opened = c.take_out.ensures.step s f stands (IsTaken-computed are) in
-    IsWritable-block are (placed_by opened.rewrites)
+    IsWritable-block are (placed_by (c.take_out.ensures.step s f stands (IsTaken-computed are)).rewrites)
 
 pub set_word_at-requires-then-wide-clause-place : goal.set_word_at-requires-then-wide-clause-place
 set_word_at-requires-then-wide-clause-place g c =
@@ -119,7 +117,6 @@ pub returns-then-wide : goal.returns-then-wide
 returns-then-wide g c =
     let at = goal.at.returns-then-wide g c in
     let m = c.args.memory.now in
-    let l = c.load_at-len.new.self in
     let o = c.set_word_at.new.self in
     let n = c.set_word_at-then-wide.new.self in
     let read = c.load_at-len.ensures in
@@ -131,13 +128,13 @@ returns-then-wide g c =
     let (s, f, v, chosen, start) = c.requires.chosen in
     let are = computed g at.After-front-payload (loaded g at.After-load_at-len v) f chosen start in
     let is = sized g at.After-set_word_at are in
-    let stays = Stays-then (Stays-same m l read.start read.out) (Stays-sized are is (padded are is n wide write.start written there)) in
+    let stays = Stays-then (Stays-same m c.load_at-len.new.self read.start read.out) (Stays-sized are is (padded are is n wide write.start written there)) in
     record {
       step = λ s f v chosen start.
           let are = computed g at.After-front-payload (loaded g at.After-load_at-len v) f chosen start in
           let is = sized g at.After-set_word_at are in
           let (t, places, stands, spare) = Places-sized are is (padded are is n wide write.start written there) in
-          (t, places, stands, KeepsSpare-counted_first m l read.start read.bytes read.out s t n spare);
+          (t, places, stands, KeepsSpare-counted_first m c.load_at-len.new.self read.start read.bytes read.out s t n spare);
       len = λ s f v chosen start.
           let are = computed g at.After-front-payload (loaded g at.After-load_at-len v) f chosen start in
           omega (arith, are.start, are.payload, are.taken);
@@ -149,20 +146,18 @@ returns-then-wide g c =
 pub returns-else-wide : goal.returns-else-wide
 returns-else-wide g c =
     let at = goal.at.returns-else-wide g c in
-    let m = c.args.memory.now in
-    let l = c.load_at-len.new.self in
     let o = c.set_word_at.new.self in
     let read = c.load_at-len.ensures in
     let narrow : ¬ (32 ≤ c.args.layout.align) = λ wide. omega arith in
     let padded = Writes-none o o (32 ≤ c.args.layout.align) (c.front-payload.result.0 - 8) c.args.found.start refl narrow in
     let (s, f, v, chosen, start) = c.requires.chosen in
     let are = computed g at.After-front-payload (loaded g at.After-load_at-len v) f chosen start in
-    let stays = Stays-then (Stays-same m l read.start read.out) (Stays-sized are (sized g at.After-set_word_at are) padded) in
+    let stays = Stays-then (Stays-same c.args.memory.now c.load_at-len.new.self read.start read.out) (Stays-sized are (sized g at.After-set_word_at are) padded) in
     record {
       step = λ s f v chosen start.
           let are = computed g at.After-front-payload (loaded g at.After-load_at-len v) f chosen start in
           let (t, places, stands, spare) = Places-sized are (sized g at.After-set_word_at are) padded in
-          (t, places, stands, KeepsSpare-counted_first m l read.start read.bytes read.out s t o spare);
+          (t, places, stands, KeepsSpare-counted_first c.args.memory.now c.load_at-len.new.self read.start read.bytes read.out s t o spare);
       len = λ s f v chosen start.
           let are = computed g at.After-front-payload (loaded g at.After-load_at-len v) f chosen start in
           omega (arith, are.start, are.payload, are.taken);

@@ -37,26 +37,14 @@ first_two g c =
     (placed_as one.new.self two.new.self two.ensures.start two.ensures.len two.ensures.own)
 
 pub set_word-requires-2 : goal.set_word-requires-2
-set_word-requires-2 g c =
-    let (s, v, new) = c.requires.fresh in
-    let room = new.room in
-    let whole = new.whole in
-    let one = placed_as c.args.memory.now c.set_word.new.self c.set_word.ensures.start c.set_word.ensures.len c.set_word.ensures.own in
-    IsWritable-in one c.args.chunk new.lies_in new.own (c.args.chunk.start + 8) (omega arith) (omega arith) (omega arith)
+set_word-requires-2 g c = grind (arith, placed_as, IsWritable-in, c.requires.fresh, c.set_word.ensures.start, c.set_word.ensures.len, c.set_word.ensures.own)
 
 pub set_word-requires-3 : goal.set_word-requires-3
-set_word-requires-3 g c =
-    let (s, v, new) = c.requires.fresh in
-    let room = new.room in
-    let whole = new.whole in
-    let two = first_two g (goal.at.set_word-requires-3 g c).After-set_word-2 in
-    IsWritable-in two c.args.chunk new.lies_in new.own (c.args.chunk.start + (c.args.chunk.len - 32)) (omega arith) (omega arith) (omega arith)
+set_word-requires-3 g c = grind (arith, first_two, After-set_word-2, IsWritable-in, c.requires.fresh)
 
 pub set_word-requires-4 : goal.set_word-requires-4
 set_word-requires-4 g c =
     let (s, v, new) = c.requires.fresh in
-    let room = new.room in
-    let whole = new.whole in
     let last = placed_as c.set_word-2.new.self c.set_word-3.new.self c.set_word-3.ensures.start c.set_word-3.ensures.len c.set_word-3.ensures.own in
     let three = placed_then (first_two g (goal.at.set_word-requires-4 g c).After-set_word-2) last in
     IsWritable-in three c.args.chunk new.lies_in new.own (c.args.chunk.start + (c.args.chunk.len - 32) + 8) (omega arith) (omega arith) (omega arith)
@@ -64,16 +52,12 @@ set_word-requires-4 g c =
 pub link_free_block-requires : goal.link_free_block-requires
 link_free_block-requires g c =
     let (s, v, new) = c.requires.fresh in
-    let chunk = c.args.chunk in
     let writes = written g (goal.at.link_free_block-requires g c).After-set_word-4 v new in
-    (omega arith, (c.requires.parameters, ((body chunk, s.free, refl, refl, IsRoom-body v chunk new writes), search rules)))
+    (omega arith, (c.requires.parameters, ((body c.args.chunk, s.free, refl, refl, IsRoom-body v c.args.chunk new writes), search rules)))
 
 pub returns : goal.returns
 returns g c =
-    let at = (goal.at.returns g c).After-set_word-4 in
     let chunk = c.args.chunk in
-    let n1 = c.set_word.new.self in
-    let n2 = c.set_word-2.new.self in
     let n3 = c.set_word-3.new.self in
     let one = c.set_word.ensures in
     let two = c.set_word-2.ensures in
@@ -81,12 +65,12 @@ returns g c =
     let four = c.set_word-4.ensures in
     record {
       step = λ s v new.
-          let writes = written g at v new in
+          let writes = written g ((goal.at.returns g c).After-set_word-4) v new in
           IsAdded-written v chunk new writes (c.link_free_block.ensures.step (body chunk) s.free refl refl (IsRoom-body v chunk new writes));
       costs =
-          let first = Costs-written c.args.memory.now n1 chunk.start one.start one.len one.touches one.copied one.view one.out in
-          let second = Costs-written n1 n2 (chunk.start + 8) two.start two.len two.touches two.copied two.view two.out in
-          let third = Costs-written n2 n3 (chunk.start + (chunk.len - 32)) three.start three.len three.touches three.copied three.view three.out in
+          let first = Costs-written c.args.memory.now c.set_word.new.self chunk.start one.start one.len one.touches one.copied one.view one.out in
+          let second = Costs-written c.set_word.new.self c.set_word-2.new.self (chunk.start + 8) two.start two.len two.touches two.copied two.view two.out in
+          let third = Costs-written c.set_word-2.new.self n3 (chunk.start + (chunk.len - 32)) three.start three.len three.touches three.copied three.view three.out in
           let fourth = Costs-written n3 c.set_word-4.new.self (chunk.start + (chunk.len - 32) + 8) four.start four.len four.touches four.copied four.view four.out in
           Costs-then (Costs-then (Costs-then (Costs-then first second) third) fourth) c.link_free_block.ensures.costs;
     }

@@ -2,7 +2,6 @@ use Rattle.std.proofs.Common.{◌≡◌, ◌+◌, ◌-◌, ◌*◌, ◌/◌, ◌
 use Rattle.std.proofs.lemmas.Bool.{cases_lt}
 use Rattle.std.specs.Int.NonZero.{non_zero_usize_get}
 use Rattle.std.specs.Option.{option_map}
-use Rattle.rlsf_model.specs.Insert.{aligned_part}
 use Rattle.rlsf_base.specs.Range.{range_at}
 use Rattle.rlsf_base.specs.Rounding.{round32}
 use Rattle.rlsf_base.proofs.Numbers.Roundings.{round32-le}
@@ -16,7 +15,6 @@ use Rattle.rlsf_blocks.proofs.pool.insert_chunks.Goals.{then-start-first, else-s
 pub returns-in_default : goal.returns-in_default
 returns-in_default g c = record {
   step = λ s v fresh.
-      let first : c.in-Some.first ≡ round32 c.args.range.start = c.in-Some.ensures.1 in
       nothing_inserted v c.args.range fresh (omega (arith, c.if-first-end.false));
   refused = refl;
   own = λ a from. refl;
@@ -31,9 +29,7 @@ returns-in_default-2 g c = record {
         | inl below ↦ absurd (c.in_default.ensures (omega arith, below))
         | inr above ↦ above
       ] in
-      let inside = fresh.lies_in.1 in
-      let none : (aligned_part c.args.range).len ≡ 0 = omega (arith, v.well_formed.addressable) in
-      nothing_inserted v c.args.range fresh none;
+      nothing_inserted v c.args.range fresh (omega (arith, v.well_formed.addressable));
   refused = refl;
   own = λ a from. refl;
   here = λ a from is. is;
@@ -64,9 +60,7 @@ add_chunk-requires g c =
 pub overflow_add-start : goal.overflow_add-start
 overflow_add-start g c =
     let (s, v, fresh) = c.requires.fresh in
-    let filled = c.loop-left.invariant s v fresh in
-    let within = fresh.lies_in.1 in
-    omega (arith, filled.to, c.chunk_length-len.ensures.bounds, v.well_formed.addressable)
+    omega (arith, (c.loop-left.invariant s v fresh).to, c.chunk_length-len.ensures.bounds, v.well_formed.addressable)
 
 pub loop-left-preserved : goal.loop-left-preserved
 loop-left-preserved g c = λ s v fresh.
@@ -85,8 +79,7 @@ loop-left-preserved g c = λ s v fresh.
 pub overflow_sub-taken : goal.overflow_sub-taken
 overflow_sub-taken g c =
     let (s, v, fresh) = c.requires.fresh in
-    let filled = c.loop-left.invariant s v fresh in
-    omega (arith, filled.from, round32-le c.args.range.start)
+    omega (arith, (c.loop-left.invariant s v fresh).from, round32-le c.args.range.start)
 
 pub returns : goal.returns
 returns g c =
@@ -97,7 +90,6 @@ returns g c =
       step = λ s v fresh.
           let filled = c.loop-left.invariant s v fresh in
           let answer = number c.new.result c.if-start-first.taken c.new.ensures in
-          let skipped = round32-le c.args.range.start in
           IsFilled-end v c.args.range fresh filled (omega arith) (option_map non_zero_usize_get c.new.result)
           (λ at. answer.0 (elim c.if-start-first.branch [ then-start-first w ↦ w.taken-is | else-start-first w ↦ absurd (w.if-start-first.false (at ∙ sym first)) ]))
           (λ past. elim c.if-start-first.branch [

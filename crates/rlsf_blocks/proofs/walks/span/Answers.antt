@@ -16,9 +16,7 @@ returns-in-Some c = λ fllen sllen m t s v row.
     (IsSpan-some v c.args.range c.saturating_add-end.result c.saturating_add-end.ensures (omega (arith, c.if-start-end.true, is)) row)
 
 pub returns-in_default : goal.returns-in_default
-returns-in_default c = λ fllen sllen m t s v row.
-    let (fits, is) = c.in-Some.ensures in
-    IsSpan-over v c.args.range c.saturating_add-end.result c.saturating_add-end.ensures (omega (arith, c.if-start-end.false, is)) fits.1
+returns-in_default c = grind (arith, IsSpan-over, c.in-Some.ensures, c.saturating_add-end.ensures, c.if-start-end.false)
 
 pub returns-in_default-2 : goal.returns-in_default-2
 returns-in_default-2 c = λ fllen sllen m t s v row.

@@ -18,14 +18,12 @@ head-newest-requires g c =
 
 pub link_front-requires-clause-place : goal.link_front-requires-clause-place
 link_front-requires-clause-place g c =
-    let fl = c.args.class.fl in
-    let sl = c.args.class.sl in
     let (r, free, place, len, beside) = c.requires.room in
     let at = class_at_range c.requires.class len in
     let counts = c.head-newest.ensures.counts in
     let kept = IsRoom-counted c.args.memory.now c.head-newest.new.memory counts.start counts.bytes counts.out beside in
-    let list = IsFreeList-of_class_from kept.list fl sl at.row at.place c.head-newest.result c.head-newest.ensures.value in
-    (r, of_class g.row.SLLEN fl sl free, place, list, kept.placed, coverage-front_class fl sl kept at)
+    let list = IsFreeList-of_class_from kept.list c.args.class.fl c.args.class.sl at.row at.place c.head-newest.result c.head-newest.ensures.value in
+    (r, of_class g.row.SLLEN c.args.class.fl c.args.class.sl free, place, list, kept.placed, coverage-front_class c.args.class.fl c.args.class.sl kept at)
 
 pub put-requires : goal.put-requires
 put-requires g c =
@@ -36,20 +34,18 @@ put-requires g c =
 pub returns-clause-step : goal.returns-clause-step
 returns-clause-step g c =
     λ r free place len beside.
-    let m = c.args.memory.now in
-    let n = c.head-newest.new.memory in
     let o = c.link_front.new.memory in
     let fl = c.args.class.fl in
     let sl = c.args.class.sl in
     let at = class_at_range c.requires.class len in
     let read = c.head-newest.ensures.counts in
-    let kept = IsRoom-counted m n read.start read.bytes read.out beside in
+    let kept = IsRoom-counted c.args.memory.now c.head-newest.new.memory read.start read.bytes read.out beside in
     let list = IsFreeList-of_class_from kept.list fl sl at.row at.place c.head-newest.result c.head-newest.ensures.value in
     let (linked, rewrites) = c.link_front.ensures.step r (of_class g.row.SLLEN fl sl free) place list kept.placed (coverage-front_class fl sl kept at) in
     let bits = c.put.ensures.bits r free at.class beside.list.table.bits in
     let counts = c.put.ensures.counts in (
       HasTable-counted o c.put.new.memory counts.start counts.bytes counts.out (HasTable-front fl sl kept at c.args.block place c.put.ensures.heads bits linked rewrites),
-      Rewrites-counted_first m n read.start read.bytes read.out
+      Rewrites-counted_first c.args.memory.now c.head-newest.new.memory read.start read.bytes read.out
           (Rewrites-counted_last o c.put.new.memory counts.start counts.bytes counts.out (Rewrites-front_class fl sl kept at rewrites)),
     )
 

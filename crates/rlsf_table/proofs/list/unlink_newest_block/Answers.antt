@@ -51,10 +51,8 @@ load_at-next-requires-clause-place g c =
 pub unlink_between-requires-clause-listed : goal.unlink_between-requires-clause-listed
 unlink_between-requires-clause-listed g c =
     let (r, before, after, place, newest, list) = c.requires.newest in
-    let fl = c.args.class.fl in
-    let sl = c.args.class.sl in
     let kept = kept_list g (goal.at.unlink_between-requires-clause-listed g c).After-take (list_from r before after newest list) in
-    (r, r ∷ of_class g.row.SLLEN fl sl after, head_at c.args.table.now fl sl, place, inl refl, kept)
+    (r, r ∷ of_class g.row.SLLEN c.args.class.fl c.args.class.sl after, head_at c.args.table.now c.args.class.fl c.args.class.sl, place, inl refl, kept)
 
 pub unlink_between-requires-clause-links : goal.unlink_between-requires-clause-links
 unlink_between-requires-clause-links g c =
@@ -69,7 +67,6 @@ returns-clause-step g c =
     λ r before after place newest list.
     let sllen = g.row.SLLEN in
     let m = c.args.memory.now in
-    let o = c.take.new.memory in
     let p = c.unlink_between.new.memory in
     let fl = c.args.class.fl in
     let sl = c.args.class.sl in
@@ -81,7 +78,7 @@ returns-clause-step g c =
     let linked : Links p 0 (of_class sllen fl sl before ++ of_class sllen fl sl after) next =
     subst (λ l. Links p 0 (l ++ of_class sllen fl sl after) next) (sym newest.first) joined in
     let first : Rewrites m p (IsLink (r ∷ of_class sllen fl sl after)) =
-    Rewrites-counted_first m o (counts.start ∙ read.start) (counts.bytes ∙ read.bytes) (counts.out ∙ read.out) rewritten in
+    Rewrites-counted_first m c.take.new.memory (counts.start ∙ read.start) (counts.bytes ∙ read.bytes) (counts.out ∙ read.out) rewritten in
     let rewrites : Rewrites m p (IsLink (of_class sllen fl sl before ++ (r ∷ of_class sllen fl sl after))) =
     subst (λ l. Rewrites m p (IsLink (l ++ (r ∷ of_class sllen fl sl after)))) (sym newest.first) first in
     let is_head = IsHeadOf-removal before r after fl sl list newest.at next linked rewrites in

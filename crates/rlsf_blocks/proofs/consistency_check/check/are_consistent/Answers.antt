@@ -1,7 +1,5 @@
-use Rattle.std.proofs.Common.{◌^◌, ◌<◌, true≢false, arith, refl, sym, inl, inr}
+use Rattle.std.proofs.Common.{true≢false, arith, refl, sym, inl, inr}
 use borrow.Author.Count.{below_more}
-use Rattle.rlsf_base.specs.Range.{end_of}
-use Rattle.rlsf_base.specs.Space.{range_of}
 use Rattle.rlsf_blocks.specs.Blocks.{walked}
 use Rattle.rlsf_blocks.specs.Consistency.Consistent.{HasChunks}
 use Rattle.rlsf_blocks.specs.Consistency.Pools.{HasPoolAt, pool_at}
@@ -16,10 +14,9 @@ heads_agree-requires g c =
     let ps = c.args.pools.now in
     let m = c.args.memory.now in
     let t = c.args.table.now in
-    let addressable : end_of (range_of m) < 2 ^ 64 = omega (arith, c.start-k-end.ensures.bounds) in
     let legible : HasLegibleHeads g.row.FLLEN g.row.SLLEN ps m t = elim c.requires.legible [
       | inl here ↦ HasLegibleHeads-here ps m here g.row.FLLEN g.row.SLLEN t
-      | inr are ↦ HasLegibleHeads-agree g.row.FLLEN g.row.SLLEN ps m t addressable (pools_heads g.row.FLLEN g.row.SLLEN ps m t are)
+      | inr are ↦ HasLegibleHeads-agree g.row.FLLEN g.row.SLLEN ps m t (omega (arith, c.start-k-end.ensures.bounds)) (pools_heads g.row.FLLEN g.row.SLLEN ps m t are)
     ] in
     (omega arith, (c.requires.parameters, legible))
 
@@ -33,21 +30,16 @@ pub has_chunks-requires : goal.has_chunks-requires
 has_chunks-requires g c =
     let ps = c.args.pools.now in
     let m = c.args.memory.now in
-    let t = c.args.table.now in
     let k = c.loop-k.k in
     let is : HasPoolAt ps k = omega (arith, c.loop-k-test.true) in
-    let legible : CanReadChunks g.row.FLLEN g.row.SLLEN ps m t (walked (pool_at ps k)) = elim c.requires.legible [
+    let legible : CanReadChunks g.row.FLLEN g.row.SLLEN ps m c.args.table.now (walked (pool_at ps k)) = elim c.requires.legible [
       | inl here ↦ inl here
-      | inr are ↦ inr (pools_chunks g.row.FLLEN g.row.SLLEN ps m t are k is)
+      | inr are ↦ inr (pools_chunks g.row.FLLEN g.row.SLLEN ps m c.args.table.now are k is)
     ] in
     (omega arith, (c.requires.parameters, (legible, reaches_pool ps m k is)))
 
 pub returns-then-not-has_chunks : goal.returns-then-not-has_chunks
-returns-then-not-has_chunks g c = (
-  λ no. absurd (true≢false (sym no)),
-  λ are. c.if-not-has_chunks.ensures.1
-      (pools_chunks g.row.FLLEN g.row.SLLEN c.args.pools.now c.args.memory.now c.args.table.now are c.loop-k.k (omega (arith, c.loop-k-test.true))),
-)
+returns-then-not-has_chunks g c = grind (arith, true≢false, pools_chunks, c.if-not-has_chunks.ensures.1, g.row.FLLEN, g.row.SLLEN, c.loop-k-test.true)
 
 pub loop-k-preserved : goal.loop-k-preserved
 loop-k-preserved g c =

@@ -1,6 +1,4 @@
-use Rattle.std.proofs.Common.{◌≡◌, ◌+◌, ◌-◌, ◌%◌, ◌^◌, ◌<◌, true≢false, arith, refl, sym, ◌∙◌, inl, inr, subst}
-use Rattle.rlsf_base.specs.Range.{end_of}
-use Rattle.rlsf_base.specs.Space.{range_of}
+use Rattle.std.proofs.Common.{◌≡◌, ◌+◌, ◌-◌, ◌%◌, ◌<◌, true≢false, arith, refl, sym, ◌∙◌, inl, inr, subst}
 use Rattle.rlsf_model.specs.State.{between}
 use Rattle.rlsf_blocks.specs.Steps.BlockAt.{CanReadChunks, IsSpanOf}
 use Rattle.rlsf_blocks.proofs.Consistency.Pieces.{IsBase-valid}
@@ -10,23 +8,14 @@ use Rattle.rlsf_blocks.proofs.consistency_check.check.has_chunks.Goals as goal
 pub returns-then-range-skipped : goal.returns-then-range-skipped
 returns-then-range-skipped g c =
     let m = c.args.memory.now in
-    let addressable : end_of (range_of m) < 2 ^ 64 = omega (arith, c.start.ensures.bounds) in
-    let base = IsBase-valid g.row.FLLEN g.row.SLLEN m c.requires.parameters addressable in
+    let base = IsBase-valid g.row.FLLEN g.row.SLLEN m c.requires.parameters (omega (arith, c.start.ensures.bounds)) in
     let skipped = (32 - c.args.range.start % 32) % 32 in (
       λ _. HasChunks-nothing g.row.FLLEN g.row.SLLEN c.args.pools.now m c.args.table.now c.args.range skipped refl base c.if-range-skipped.true,
       λ _. refl,
     )
 
 pub returns-then-is_within : goal.returns-then-is_within
-returns-then-is_within g c =
-    let skipped = (32 - c.args.range.start % 32) % 32 in
-    let less : skipped < c.args.range.len = omega (arith, c.if-range-skipped.false) in
-    let at : c.args.range.start + skipped ≡ c.in-Some.start = omega (arith, c.in-Some.ensures) in
-    let from = SomeLayoutFrom g.row.FLLEN g.row.SLLEN c.args.pools.now c.args.memory.now c.args.table.now (c.args.range.len - skipped) in (
-      λ same. HasChunks-rest g.row.FLLEN g.row.SLLEN c.args.pools.now c.args.memory.now c.args.table.now c.args.range skipped refl less
-          (subst from (sym at) (c.are_chunks.ensures.0 same)),
-      λ is. c.are_chunks.ensures.1 (subst from at (rest_of g.row.FLLEN g.row.SLLEN c.args.pools.now c.args.memory.now c.args.table.now c.args.range skipped refl less is)),
-    )
+returns-then-is_within g c = grind (arith, HasChunks-rest, rest_of)
 
 pub returns-else-is_within : goal.returns-else-is_within
 returns-else-is_within g c =

@@ -65,14 +65,13 @@ returns-then-block-chunk-clause-each g c = λ s k r v i at within.
 pub returns-in-Some-map_floor-clause-some : goal.returns-in-Some-map_floor-clause-some
 returns-in-Some-map_floor-clause-some g c =
     let so_far = c.loop-block.invariant in
-    let span = c.requires.span in
     let more : c.args.chunk < c.loop-block.block = omega (arith, so_far.from, c.if-block-chunk.false) in
     let base = IsBase-valid g.row.FLLEN g.row.SLLEN c.args.memory.now c.requires.parameters c.requires.span.addressable in
     let valid = map_floor-valid g.row.FLLEN g.row.SLLEN (c.loop-block.block - c.args.chunk) c.in-Some-map_floor.field-0 (sym c.in-Some-map_floor.ensures) in (
       omega (arith, more),
       so_far.to,
       omega (arith, so_far.whole),
-      SomeChunks-one base c.args.chunk c.loop-block.block span.from (omega (arith, so_far.to, span.to)) c.requires.whole so_far.whole more valid
+      SomeChunks-one base c.args.chunk c.loop-block.block c.requires.span.from (omega (arith, so_far.to, c.requires.span.to)) c.requires.whole so_far.whole more valid
           (c.if-not-has_word.ensures.0 refl).1 (c.loop-block-test.ensures.0 refl).1 so_far.part,
     )
 
@@ -84,9 +83,8 @@ pub returns-in-None-map_floor-clause-each : goal.returns-in-None-map_floor-claus
 returns-in-None-map_floor-clause-each g c = λ s k r v i at within.
     let ends = ends_there v k i (c.loop-block.invariant.passes s k r v i at within) (c.loop-block-test.ensures.0 refl).1 in
     let chunk = v.well_formed.chunks k i in
-    let len : k.len - 32 ≡ c.loop-block.block - c.args.chunk = omega (arith, ends, at, chunk.has_room) in
     absurd (map_floor-none g.row.FLLEN g.row.SLLEN (c.loop-block.block - c.args.chunk) (sym c.in-None-map_floor.ensures)
-    (subst (λ n. IsValidClass g.row.FLLEN (class_of g.row.SLLEN n)) len chunk.valid))
+    (subst (λ n. IsValidClass g.row.FLLEN (class_of g.row.SLLEN n)) (omega (arith, ends, at, chunk.has_room)) chunk.valid))
 
 pub has_word-requires : goal.has_word-requires
 has_word-requires g c = elim c.requires.legible [

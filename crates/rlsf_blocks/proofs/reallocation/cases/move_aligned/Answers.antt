@@ -12,9 +12,7 @@ there : {s : State} {u : Used} {block payload addr align : ℕ} → addr ≡ pay
 there same is = record { is_used = is.is_used; start = is.start; caller = is.caller ∙ sym same; alignment = is.alignment }
 
 pub payload_in-payload-requires : goal.payload_in-payload-requires
-payload_in-payload-requires g c =
-    let (s, u, v, is, first, here) = c.requires.used in
-    record { narrow = λ one. omega (arith, narrow_start v u is.is_used is.caller is.alignment (omega (arith, c.requires.narrow one)), is.start) }
+payload_in-payload-requires g c = grind (arith, narrow_start, c.requires.used, c.requires.narrow)
 
 pub moved-requires : goal.moved-requires
 moved-requires g c =
@@ -46,12 +44,11 @@ returns-in-Some g c =
 pub returns-in-None : goal.returns-in-None
 returns-in-None g c =
     let e = c.in-None.ensures in
-    let at = c.payload_in-payload.ensures in
     rw (← c.layout_in-layout.ensures) (record {
-      step = λ s u v is first here. e.step s u v (there at is) first here;
+      step = λ s u v is first here. e.step s u v (there c.payload_in-payload.ensures is) first here;
       refused = e.refused;
       costs = e.costs;
-      copied = λ s u v is. e.copied s u v (there at is);
+      copied = λ s u v is. e.copied s u v (there c.payload_in-payload.ensures is);
       own = e.own;
       here = e.here;
       kept_here = λ s u v is first here. tt;

@@ -13,8 +13,7 @@ use Rattle.rlsf_blocks.proofs.reallocation.cases.moved.Goals as goal
 pub move_into_previous-requires : goal.move_into_previous-requires
 move_into_previous-requires g c =
     let (s, u, v, is, first, here) = c.requires.used in
-    let none = in_place-none s u c.args.layout.size first in
-    (omega arith, (c.requires.parameters, ((s, u, v, is, none, here), (search rules, c.requires.whole))))
+    (omega arith, (c.requires.parameters, ((s, u, v, is, in_place-none s u c.args.layout.size first, here), (search rules, c.requires.whole))))
 
 pub move_elsewhere-requires : goal.move_elsewhere-requires
 move_elsewhere-requires g c =
@@ -39,13 +38,11 @@ move_elsewhere-requires g c =
 
 pub returns-in-Some : goal.returns-in-Some
 returns-in-Some g c =
-    let m = c.args.memory.now in
-    let n = c.move_into_previous.new.memory in
     let moves = c.in-Some.ensures in
     record {
       step = λ s u v is first here.
           let (p, third, at, carried) = moves.moved s u v is (in_place-none s u c.args.layout.size first) here in
-          IsReallocated-planned m n c.args.table.now c.move_into_previous.new.table s u c.args.layout.size p c.in-Some.moved
+          IsReallocated-planned c.args.memory.now c.move_into_previous.new.memory c.args.table.now c.move_into_previous.new.table s u c.args.layout.size p c.in-Some.moved
           (plan-moves s u c.args.layout.size first ∙ third) at carried;
       refused = tt;
       costs = Costs-within (omega arith) moves.costs;

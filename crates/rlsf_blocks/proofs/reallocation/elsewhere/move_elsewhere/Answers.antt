@@ -56,10 +56,9 @@ placing g c s u v is =
 still : (g : given.Over) (c : In_ok-moved g) → SameOwn c.args.memory.now c.allocate_block.new.memory × StaysHere c.args.memory.now c.allocate_block.new.memory
 still g c =
     let before = c.load_at.ensures in
-    let m = c.args.memory.now in
     let n = c.load_at.new.self in (
-      λ a inside. c.in_ok-moved.ensures.own a (omega (arith, before.start)) ∙ own-same m n before.start before.out a inside,
-      λ a inside is. c.in_ok-moved.ensures.here a (omega (arith, before.start)) (out-same m n a before.start before.out ∙ is),
+      λ a inside. c.in_ok-moved.ensures.own a (omega (arith, before.start)) ∙ own-same c.args.memory.now n before.start before.out a inside,
+      λ a inside is. c.in_ok-moved.ensures.here a (omega (arith, before.start)) (out-same c.args.memory.now n a before.start before.out ∙ is),
     )
 
 -- what is copied is the old payload
@@ -81,10 +80,9 @@ load_at-requires-clause-place g c =
 pub used_end-end-requires : goal.used_end-end-requires
 used_end-end-requires g c =
     let (s, u, v, is, short, here) = c.requires.used in
-    let word = c.load_at.ensures.word in
     record {
-      used = omega (arith, word_computed v u is.is_used is.start word);
-      fits = omega (arith, end_computed v u is.is_used is.start word, used_in_memory v.well_formed u is.is_used, v.well_formed.addressable);
+      used = omega (arith, word_computed v u is.is_used is.start c.load_at.ensures.word);
+      fits = omega (arith, end_computed v u is.is_used is.start c.load_at.ensures.word, used_in_memory v.well_formed u is.is_used, v.well_formed.addressable);
     }
 
 pub allocate_block-requires : goal.allocate_block-requires
@@ -141,7 +139,6 @@ deallocate_block-requires g c =
 
 pub returns-in_err-moved : goal.returns-in_err-moved
 returns-in_err-moved g c =
-    let at = goal.at.returns-in_err-moved g c in
     let m = c.args.memory.now in
     let n = c.allocate_block.new.memory in
     let read = c.load_at.ensures in
@@ -151,7 +148,7 @@ returns-in_err-moved g c =
     let stays = Stays-same m n counts.start counts.out in
     record {
       step = λ s u v is short here.
-          let (t, none, now, spare) = c.in_err-moved.ensures.step s (loaded g at.After-load_at v) in
+          let (t, none, now, spare) = c.in_err-moved.ensures.step s (loaded g (goal.at.returns-in_err-moved g c).After-load_at v) in
           on_none _ c.from_residual.result c.from_residual.ensures (none.0, refl);
       unchanged = none_none c.from_residual.result (counts, c.in_err-moved.ensures.unchanged.1);
       costs = Costs-moving (omega (arith, counts.copied)) (Costs-within (omega arith) (Costs-counted counts));

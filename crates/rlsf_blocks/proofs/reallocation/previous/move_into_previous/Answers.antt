@@ -48,10 +48,9 @@ loaded g c v = StandsFor-counted c.args.memory.now c.load_at.new.self c.load_at.
 pub used_end-end-requires : goal.used_end-end-requires
 used_end-end-requires g c =
     let (s, u, v, used, short, here) = c.requires.used in
-    let word = c.load_at.ensures.word in
     record {
-      used = omega (arith, word_computed v u used.is_used used.start word);
-      fits = omega (arith, end_computed v u used.is_used used.start word, used_in_memory v.well_formed u used.is_used, v.well_formed.addressable);
+      used = omega (arith, word_computed v u used.is_used used.start c.load_at.ensures.word);
+      fits = omega (arith, end_computed v u used.is_used used.start c.load_at.ensures.word, used_in_memory v.well_formed u used.is_used, v.well_formed.addressable);
     }
 
 pub place_before-requires-clause-used : goal.place_before-requires-clause-used
@@ -102,8 +101,7 @@ stood g c v =
 pub take_previous-start-requires : goal.take_previous-start-requires
 take_previous-start-requires g c =
     let (s, u, v, used, short, here) = c.requires.used in
-    let at = goal.at.take_previous-start-requires g c in
-    (omega arith, (c.requires.parameters, ((s, u, stood g at.In_ok-moved v, used.is_used, used.start), search rules)))
+    (omega arith, (c.requires.parameters, ((s, u, stood g (goal.at.take_previous-start-requires g c).In_ok-moved v, used.is_used, used.start), search rules)))
 
 pub take_if_free-next-requires : goal.take_if_free-next-requires
 take_if_free-next-requires g c =
@@ -261,9 +259,8 @@ returns-else-wide g c =
     let at = goal.at.returns-else-wide g c in
     let counts = sought g at.After-place_before in
     let copy = c.copy_payload.ensures in
-    let o = c.occupy.new.memory in
     let narrow : ¬ (32 ≤ c.args.layout.align) = λ wide. omega (arith, c.align-wide.ensures.value, c.if-wide.false) in
-    let padded = Writes-none o o (32 ≤ c.args.layout.align) (c.in_ok-moved.moved - 8) c.take_previous-start.result refl narrow in
+    let padded = Writes-none c.occupy.new.memory c.occupy.new.memory (32 ≤ c.args.layout.align) (c.in_ok-moved.moved - 8) c.take_previous-start.result refl narrow in
     let costs = occupied g at.After-occupy counts in
     let (s, u, ours) = ours g at.After-take_if_free-next counts in
     let stays = stays_moved ours copy.start copy.bytes copy.out c.occupy.ensures.step padded in

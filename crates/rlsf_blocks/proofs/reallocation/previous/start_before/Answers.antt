@@ -22,19 +22,17 @@ pub load_at-size-requires-clause-place : goal.load_at-size-requires-clause-place
 load_at-size-requires-clause-place c =
     let (fllen, sllen, t, s, u, v, i, at) = c.requires.used in
     let m = c.args.memory.now in
-    let n = c.load_at-previous.new.self in
     let read = c.load_at-previous.ensures in
-    let marked = IsMarked-loaded m n read.start read.bytes read.out (IsMarked-previous v u i at read.word c.if-previous-eq0.false) in
+    let marked = IsMarked-loaded m c.load_at-previous.new.self read.start read.bytes read.out (IsMarked-previous v u i at read.word c.if-previous-eq0.false) in
     marked.word
 
 pub overflow_sub-result : goal.overflow_sub-result
 overflow_sub-result c =
     let (fllen, sllen, t, s, u, v, i, at) = c.requires.used in
     let m = c.args.memory.now in
-    let n = c.load_at-previous.new.self in
     let read = c.load_at-previous.ensures in
-    let marked = IsMarked-loaded m n read.start read.bytes read.out (IsMarked-previous v u i at read.word c.if-previous-eq0.false) in
-    let list = IsFreeTable-counted m n read.start read.bytes read.out (IsFreeTable-free v) in
+    let marked = IsMarked-loaded m c.load_at-previous.new.self read.start read.bytes read.out (IsMarked-previous v u i at read.word c.if-previous-eq0.false) in
+    let list = IsFreeTable-counted m c.load_at-previous.new.self read.start read.bytes read.out (IsFreeTable-free v) in
     let long = end_free list marked c.load_at-size.ensures.word (c.is_free.ensures.0 c.if-not-is_free.false) in
     (length_before v u i at read.word c.if-previous-eq0.false long).within
 
@@ -52,10 +50,9 @@ returns-then-not-is_free c = record {
   start = λ fllen sllen t s u v i at. tt;
   none = λ fllen sllen t s u v i at.
       let m = c.args.memory.now in
-      let n = c.load_at-previous.new.self in
       let read = c.load_at-previous.ensures in
-      let marked = IsMarked-loaded m n read.start read.bytes read.out (IsMarked-previous v u i at read.word c.if-previous-eq0.false) in
-      let list = IsFreeTable-counted m n read.start read.bytes read.out (IsFreeTable-free v) in
+      let marked = IsMarked-loaded m c.load_at-previous.new.self read.start read.bytes read.out (IsMarked-previous v u i at read.word c.if-previous-eq0.false) in
+      let list = IsFreeTable-counted m c.load_at-previous.new.self read.start read.bytes read.out (IsFreeTable-free v) in
       let long = end_used list marked c.load_at-size.ensures.word (odd_from c.load_at-size.result c.is_free.ensures c.if-not-is_free.true) in
       omega arith ∙ (length_before v u i at read.word c.if-previous-eq0.false long).begins;
   counts = search rules;
@@ -66,10 +63,9 @@ pub returns : goal.returns
 returns c = record {
   start = λ fllen sllen t s u v i at.
       let m = c.args.memory.now in
-      let n = c.load_at-previous.new.self in
       let read = c.load_at-previous.ensures in
-      let marked = IsMarked-loaded m n read.start read.bytes read.out (IsMarked-previous v u i at read.word c.if-previous-eq0.false) in
-      let list = IsFreeTable-counted m n read.start read.bytes read.out (IsFreeTable-free v) in
+      let marked = IsMarked-loaded m c.load_at-previous.new.self read.start read.bytes read.out (IsMarked-previous v u i at read.word c.if-previous-eq0.false) in
+      let list = IsFreeTable-counted m c.load_at-previous.new.self read.start read.bytes read.out (IsFreeTable-free v) in
       let free = c.is_free.ensures.0 c.if-not-is_free.false in
       let before = length_before v u i at read.word c.if-previous-eq0.false (end_free list marked c.load_at-size.ensures.word free) in
       let (f, j, begins, long) = block_there list marked c.load_at-size.ensures.word free in

@@ -83,19 +83,17 @@ stretch-requires g c =
     let here = goal.at.stretch-requires g c in
     let m = c.args.memory.now in
     let n = c.free_length.new.memory in
-    let size = c.args.layout.size in
     let counts = read g here.After-free_length in
     let far = ends g here.After-free_length v u at in
-    let room : HasRoomBehind s u size = omega (arith, far.0, far.1, c.if-taken-len-2.false) in
     let same = word_at-counted m n counts.start counts.bytes counts.out c.args.block in
     let word = subst (λ a. word_at m a ≡ u.block.len + 1) at.start (v.sizes.used u at.is_used) in
     let wanted = c.next_multiple_of_32-taken.ensures.value ∙ ap (λ w. next_multiple_of (c.args.payload - c.args.block + w) 32) c.size.ensures.value in
-    let owned = owned-same m n (between (end_of (resized u size)) (end_of u.block)) counts.start counts.out own in (
+    let owned = owned-same m n (between (end_of (resized u c.args.layout.size)) (end_of u.block)) counts.start counts.out own in (
       omega arith,
       (
         c.requires.parameters,
         (
-          (s, u, StandsFor-counted m n counts.start counts.bytes counts.out v, at, owned, room),
+          (s, u, StandsFor-counted m n counts.start counts.bytes counts.out v, at, owned, omega (arith, far.0, far.1, c.if-taken-len-2.false)),
           (
             record { own = omega (arith, same, word, c.load_at.ensures.word, c.len_of_used-len.ensures); wanted = wanted; other = c.if-taken-len.false },
             omega (arith, IsUsed-after_start u (v.well_formed.used u at.is_used), at.start, at.caller),
@@ -108,10 +106,8 @@ stretch-requires g c =
 
 pub returns-then-taken-len : goal.returns-then-taken-len
 returns-then-taken-len g c =
-    let m = c.args.memory.now in
-    let n = c.load_at.new.self in
     let read = c.load_at.ensures in
-    let stays = Stays-same m n read.start read.out in
+    let stays = Stays-same c.args.memory.now c.load_at.new.self read.start read.out in
     record {
       done = λ s u v at own.
           let size = c.args.layout.size in
@@ -127,7 +123,7 @@ returns-then-taken-len g c =
           );
       refused = λ s u v at. tt;
       unchanged = tt;
-      costs = Costs-within (omega arith) (Costs-loaded m n read.start read.bytes read.touches read.copied read.view read.out);
+      costs = Costs-within (omega arith) (Costs-loaded c.args.memory.now c.load_at.new.self read.start read.bytes read.touches read.copied read.view read.out);
       own = stays.own;
       here = stays.here;
     }

@@ -44,15 +44,14 @@ spanned g c {s} v u at own room =
     let gone =
     IsNextOut-end v u at word (omega arith) refl refl refl
     (c.take_if_free-next.ensures.step s.free (IsFreeTable-free v) (IsMarked-loaded_end v u at word (omega arith) refl refl refl)) in
-    let start = at.start in
     let taken = taken_computed v u at c.args.layout.size refl c.requires.numbers.wanted in
     let ends = end_is v u at {len = c.args.len} word (omega arith) in
-    let long : (span_of s u).len ≡ c.args.len + c.take_if_free-next.result = omega (arith, span_len v u at.is_used gone, start, ends) in
-    let fits : c.args.taken ≤ c.args.len + c.take_if_free-next.result = omega (arith, gone.end, room, taken, start, ends) in (
+    let long : (span_of s u).len ≡ c.args.len + c.take_if_free-next.result = omega (arith, span_len v u at.is_used gone, at.start, ends) in
+    let fits : c.args.taken ≤ c.args.len + c.take_if_free-next.result = omega (arith, gone.end, room, taken, at.start, ends) in (
       gone,
       long,
       fits,
-      IsSpanRoom-span v u at.is_used gone c.args.taken (λ a lo hi. own a (omega (arith, taken, lo)) (omega (arith, taken, lo, hi))) (omega (arith, fits, long, start)),
+      IsSpanRoom-span v u at.is_used gone c.args.taken (λ a lo hi. own a (omega (arith, taken, lo)) (omega (arith, taken, lo, hi))) (omega (arith, fits, long, at.start)),
     )
 
 pub overflow_add-len : goal.overflow_add-len

@@ -38,9 +38,8 @@ invariant_of-self c =
 
 pub returns-clause-steps : goal.returns-clause-steps
 returns-clause-steps c =
-    let m = c.self.inside.memory.now in
-    let is = IsFirst-word m c.self.inside.start c.self.inside.end c.word-word.result c.word-word.ensures c.self.invariant c.if-self.false in
-    sym c.self.view_is ∙ is.list ∙ ap (λ a. block_by c.self.inside.start c.word-word.result ∷ blocks_between m a c.self.inside.end) (goes c)
+    let is = IsFirst-word c.self.inside.memory.now c.self.inside.start c.self.inside.end c.word-word.result c.word-word.ensures c.self.invariant c.if-self.false in
+    sym c.self.view_is ∙ is.list ∙ ap (λ a. block_by c.self.inside.start c.word-word.result ∷ blocks_between c.self.inside.memory.now a c.self.inside.end) (goes c)
 
 pub returns-clause-goes : goal.returns-clause-goes
 returns-clause-goes c = first_progress (λ b. b) _ _ (Some _) (returns-clause-steps c)

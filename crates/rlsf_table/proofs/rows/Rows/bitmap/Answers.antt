@@ -12,13 +12,12 @@ loop-place-init g c k =
 
 pub loop-place-preserved : goal.loop-place-preserved
 loop-place-preserved g c k =
-    let place = c.loop-place.place in
     let word = λ (j : ℕ). bit (row_word g.row.PLACES c.args.self.now.low c.args.self.now.high c.args.fl) j in
     elim c.if-has.branch [
       | then-has w ↦
-          let one : word place ≡ true = sym c.has.ensures ∙ w.if-has.true in
-          copied-one word k place _ (c.loop-place.invariant k) _ (ap (λ x. bit (g.B.BitPattern.pattern x) k) w.places-is ∙ w.insert_within.ensures k) one
+          let one : word c.loop-place.place ≡ true = sym c.has.ensures ∙ w.if-has.true in
+          copied-one word k c.loop-place.place _ (c.loop-place.invariant k) _ (ap (λ x. bit (g.B.BitPattern.pattern x) k) w.places-is ∙ w.insert_within.ensures k) one
       | else-has w ↦
-          let none : word place ≡ false = sym c.has.ensures ∙ w.if-has.false in
-          ap (λ x. bit (g.B.BitPattern.pattern x) k) w.places-is ∙ copied-none word k place _ (c.loop-place.invariant k) none
+          let none : word c.loop-place.place ≡ false = sym c.has.ensures ∙ w.if-has.false in
+          ap (λ x. bit (g.B.BitPattern.pattern x) k) w.places-is ∙ copied-none word k c.loop-place.place _ (c.loop-place.invariant k) none
     ]

@@ -32,8 +32,7 @@ first-requires g c =
     let (free, bits, blocks) = c.requires.list in
     let some = row_length-bounds g.row.SLLEN c.requires.parameters.power_of_two in
     let inside = subst (λ t. HasBits g.row.FLLEN g.row.SLLEN t free) (sym c.self.view_is) bits in
-    let scan = c.in-Some-first_behind.ensures in
-    (omega arith, row_lt some.0 inside blocks c.in-Some-first_behind.row (scan.1.found scan.0).1)
+    (omega arith, row_lt some.0 inside blocks c.in-Some-first_behind.row (c.in-Some-first_behind.ensures.1.found c.in-Some-first_behind.ensures.0).1)
 
 pub returns : goal.returns
 returns g c = record {
