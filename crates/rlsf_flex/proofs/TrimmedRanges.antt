@@ -39,13 +39,7 @@ pub LeavesPayloads-refl : (a : Allocator) → LeavesPayloads a a
 LeavesPayloads-refl a = record { live = refl; aligns = refl; bytes = refl; grow = omega arith; copied = refl }
 
 pub LeavesPayloads-then : {a b c : Allocator} → LeavesPayloads a b → LeavesPayloads b c → LeavesPayloads a c
-LeavesPayloads-then first then = record {
-  live = then.live ∙ first.live;
-  aligns = then.aligns ∙ first.aligns;
-  bytes = then.bytes ∙ first.bytes;
-  grow = omega (arith, first.grow, then.grow);
-  copied = then.copied ∙ first.copied;
-}
+LeavesPayloads-then first then = grind arith
 
 -- ---- the reference model's state
 
@@ -92,17 +86,7 @@ kept_to_last t s w takes (Some k) (r ∷ pools) newest pooled =
 module _ {S : Type 0} {fllen sllen : ℕ} {terms : S → Terms} {owes : S → List Range → Type 0} (leads : S → Note → S → Type 0) where
   -- none yet
   pub GaveBack-none : (v : FlexContents S) → FlexStandsFor fllen sllen terms owes v → GaveBack fllen sllen terms owes leads v v 0
-  GaveBack-none v stands = record {
-    gone = [];
-    split = refl;
-    idle = λ r i. absurd i;
-    counted = refl;
-    led = refl;
-    machine = refl;
-    place = SamePlace-refl v.memory;
-    spare = λ a low high one two. refl;
-    stands = stands;
-  }
+  GaveBack-none v stands = grind (arith, SamePlace-refl)
 
   -- one more
   pub GaveBack-next : (v w x : FlexContents S) (n : ℕ) → GaveBack fllen sllen terms owes leads v w n → GaveNewest fllen sllen terms owes leads w x
