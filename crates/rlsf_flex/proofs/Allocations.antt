@@ -1,14 +1,16 @@
 -- An allocation of the allocator over a source.
-use Rattle.std.proofs.Common.{◌≡◌, ℕ, Bool, true, false, true≢false, List, [], Option, Some, None, IfNone, refl, sym, ◌∙◌, ap, subst, inl, inr}
+use Rattle.std.proofs.Common.{◌≡◌, ℕ, Bool, true, false, true≢false, List, [], Option, Some, None, IfNone, IsSome, refl, sym, ◌∙◌, ap, subst, inl, inr}
 use Rattle.std.proofs.lemmas.Option.{none-some}
 use Rattle.rlsf_base.specs.declared.memory.range.Range.{Range}
 use Rattle.rlsf_base.specs.SizeClass.{IsValid}
 use Rattle.rlsf_base.specs.Sizes.{pool_size_to_contain_allocation}
 use Rattle.rlsf_base.specs.Space.{SamePlace, Space}
 use Rattle.rlsf_tlsf.specs.Allocator.{Allocator, Steps}
+use Rattle.rlsf_tlsf.specs.Bounds.{IfWithinBounds}
 use Rattle.rlsf_blocks.specs.Spare.{KeepsSpare}
 use Rattle.rlsf_flex.specs.Outside.{KeepsOutside}
 use Rattle.rlsf_flex.specs.Steps.Outside.{KeepsOutsideNow}
+use Rattle.rlsf_flex.specs.Results.{SucceedsUnasked}
 use Rattle.rlsf_flex.specs.SpareBytes.{KeepsSpareButFooter}
 use Rattle.rlsf_flex.specs.StandsFor.{FlexContents, FlexStandsFor, FlexSteps, allocator_of, with_allocator}
 use Rattle.rlsf_flex.specs.Steps.Growth.{Extended}
@@ -33,6 +35,21 @@ use Rattle.rlsf_flex.proofs.InnerAllocator.{opened}
 pub not_none : {A : Type 0} (P : Type 0) (o : Option A) → (o ≡ None → ⊥) → IfNone o P
 not_none P None some = absurd (some refl)
 not_none P (Some x) some = tt
+
+-- what holds where there is none
+pub none_of : {A P : Type 0} (o : Option A) → o ≡ None → IfNone o P → P
+none_of None is holds = holds
+none_of (Some x) is holds = absurd (none-some x (sym is))
+
+-- what is refused though it can't be within bounds is so within none
+pub never_within : {S A : Type 0} {sllen size align : ℕ} {before after : FlexContents S} {succeeds : Type 0} (o : Option A) → o ≡ None
+    → IfWithinBounds sllen before.state.machine size align (IsSome o) → SucceedsUnasked sllen before after size align succeeds
+never_within None is sure =
+    record {
+      room = λ n s a sized few short fits. absurd (true≢false (sym (sure n s a sized few short fits)));
+      unasked = λ n s a sized few short fits. absurd (true≢false (sym (sure n s a sized few short fits)));
+    }
+never_within (Some x) is sure = absurd (none-some x (sym is))
 
 -- an allocation isn't both refused and made
 pub refused_alone : (sllen size align addr : ℕ) (s t u : State) → Allocates sllen s size align None t → Allocates sllen s size align (Some addr) u → ⊥
