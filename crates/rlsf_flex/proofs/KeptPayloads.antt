@@ -1,8 +1,6 @@
 -- Growth leaves the payloads, one after another.
-use Rattle.std.proofs.Common.{◌≡◌, ◌≤◌, ℕ, ap, arith, refl, subst, sym, ◌∙◌}
+use Rattle.std.proofs.Common.{◌≡◌, ◌≤◌, ℕ, arith, refl}
 use Rattle.rlsf_base.specs.Space.{SamePlace}
-use Rattle.rlsf_model.specs.Callers.{align_at, bytes_at}
-use Rattle.rlsf_model.specs.Sized.{IsSizedFor, live_count}
 use Rattle.rlsf_tlsf.specs.Allocator.{Allocator}
 use Rattle.rlsf_flex.specs.Steps.Growth.{HasSamePayloads}
 use Rattle.rlsf_flex.proofs.Places.{SamePlace-refl, SamePlace-then}

@@ -10,7 +10,7 @@ use Rattle.rlsf_flex.specs.Outside.{IsOutside, KeepsOutside, NothingGoesBack, ev
 use Rattle.rlsf_flex.specs.Steps.Outside.{KeepsOutsideNow}
 use Rattle.rlsf_model.specs.FlexState.{FlexState, KeptPool}
 use Rattle.rlsf_model.specs.FlexWellFormed.{AreHoused, IsNewest}
-use Rattle.rlsf_model.specs.Growth.{Extends, IsPossible, Outcome, range_came, growth_came, growth_note, if_fits, longer, notes_of, questions, questions_kept, range_note, refused}
+use Rattle.rlsf_model.specs.Growth.{Extends, IsPossible, Outcome, range_came, growth_came, growth_note, notes_of, questions, questions_kept, range_note, refused}
 use Rattle.rlsf_model.specs.Growth.{TakesIn}
 use Rattle.rlsf_model.specs.Note.{Note, dealloc}
 use Rattle.rlsf_model.specs.State.{State}

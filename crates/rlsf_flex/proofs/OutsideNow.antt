@@ -1,5 +1,5 @@
 -- What leaves the bytes outside of the outstanding ranges, where no range is returned.
-use Rattle.std.proofs.Common.{ℕ, ◌≤◌, Bool, List, arith, refl, ◌∙◌}
+use Rattle.std.proofs.Common.{ℕ, ◌≤◌, Bool, List, arith, refl}
 use Rattle.rlsf_base.specs.declared.memory.range.Range.{Range}
 use Rattle.rlsf_base.specs.Space.{Space, SamePlace}
 use Rattle.rlsf_blocks.specs.Spare.{IsSpare, KeepsSpare}

@@ -1,5 +1,5 @@
 -- How long a range is asked for.
-use Rattle.std.proofs.Common.{◌≡◌, ℕ, ◌%◌, ◌≤◌, Some, arith, inl, inr}
+use Rattle.std.proofs.Common.{◌≡◌, ℕ, ◌%◌, ◌≤◌, Some, arith}
 use Rattle.rlsf_model.specs.Growth.{range_length}
 use Rattle.rlsf_model.specs.Terms.{Terms}
 use Rattle.rlsf_model.proofs.RangeLengths.{range_length-is}

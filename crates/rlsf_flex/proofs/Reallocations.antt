@@ -31,7 +31,7 @@ use Rattle.rlsf_model.proofs.Chunks.{chunks-allocated, chunks-deallocated, chunk
 use Rattle.rlsf_model.proofs.Growths.{Holds-same, used-taken}
 use Rattle.rlsf_model.proofs.Live.{handed_out_is_new}
 use Rattle.rlsf_model.proofs.Payloads.{usable-short}
-use Rattle.rlsf_flex.proofs.Allocations.{Tried, asked_answers, asked_by, asked_noted, asked_outside, asked_spare, asks, more_is_found, refused_alone}
+use Rattle.rlsf_flex.proofs.Allocations.{Tried, as_asked, asked_noted, asked_outside, asked_spare, asks, more_is_found, refused_alone}
 use Rattle.rlsf_flex.proofs.Calls.{stands_alone}
 use Rattle.rlsf_flex.proofs.Frames.{stands_stepped}
 use Rattle.rlsf_flex.proofs.Outside.{KeepsOutside-alone}
@@ -179,22 +179,22 @@ module _ {S : Type 0} {fllen sllen : ℕ} {terms : S → Terms} {owes : S → Li
         -- the payload moved into what came
         reallocated_in_more : FlexSteps fllen sllen terms owes leads v (with_allocator after last) (FlexReallocates fllen sllen (terms v.source) v.state addr size (Some to))
         unfolding FlexSteps
-        reallocated_in_more = (
-          h.notes,
+        reallocated_in_more = let asked = as_asked size align tried wanted h in (
+          asked.notes,
           inr (record {
             block = u;
             stuck = stuck;
-            outcome = h.outcome;
+            outcome = asked.outcome;
             meanwhile = after.state;
-            asks = subst (λ k. Asks fllen sllen (terms v.source) v.state size k h.outcome h.notes after.state) (sym is) (asks size align tried wanted h);
-            more = sym h.came ∙ came;
+            asks = subst (λ k. Asks fllen sllen (terms v.source) v.state size k asked.outcome asked.notes after.state) (sym is) (asks size align tried wanted h);
+            more = sym asked.came ∙ came;
             machine = last.state;
             moves = moves;
             elsewhere = λ at. moved_elsewhere h.stands.machine.well_formed u Holds-came.0 size to last.state moves (at ∙ sym Holds-came.1);
             after = refl;
           }),
-          asked_by size align tried wanted h,
-          asked_answers size align tried wanted h,
+          asked.leads_by,
+          asked.answers,
           asked_noted size align tried wanted h last.memory
               (KeepsOutsideNow-then v.memory after.memory last.memory v.state.pools after.state.pools after.state.pools (asked_outside size align tried wanted h)
               (KeepsOutsideNow-stands h.stands moved_stands place moved.spare)),

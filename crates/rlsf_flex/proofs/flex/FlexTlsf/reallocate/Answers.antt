@@ -40,14 +40,7 @@ returns-in-Some g c =
       room = record { room = is.room.bounds; unasked = λ count size align sized few short fits. refl };
       bounds = is.bounds;
       refused = tt;
-      frame = record {
-        count = is.frame.count;
-        place = is.frame.place;
-        grow = is.frame.grow;
-        copied = λ room. is.frame.copied;
-        grow_copied = is.frame.grow_copied;
-        stays = is.frame.stays;
-      };
+      frame = assumption is.frame;
       touches = λ room. is.touches;
     })
 
@@ -92,14 +85,7 @@ returns-in_err-wanted g c =
       room = never_within c.reallocate.result c.in_default.is did.room.bounds;
       bounds = did.bounds;
       refused = record { same = first.same; bytes = (none_of c.reallocate.result c.in_default.is did.refused).bytes };
-      frame = record {
-        count = did.frame.count;
-        place = did.frame.place;
-        grow = did.frame.grow;
-        copied = λ room. did.frame.copied;
-        grow_copied = did.frame.grow_copied;
-        stays = λ room. absurd (moves_in g here room);
-      };
+      frame = assumption did.frame;
       touches = λ room. did.touches;
     }))
 
