@@ -75,23 +75,11 @@ module _ (f f' : FlexContents PageCursor) where
 
   pub kept_allocated : (size align : ℕ) (reply : Option ℕ)
       → FlexSteps 64 64 terms_of MayOwe PageLeads f f' (FlexAllocates 64 64 (terms_of f.source) f.state size align reply) → KeepsMemory f f'
-  kept_allocated size align None did =
-      kept_asked (FlexAllocates 64 64 (terms_of f.source) f.state size align None) did (λ notes is. asked_return_none is.extends)
-  kept_allocated size align (Some addr) did =
-      kept_asked (FlexAllocates 64 64 (terms_of f.source) f.state size align (Some addr)) did (λ notes is. elim is [
-        | inl room ↦ none_return_none notes room.none
-        | inr more ↦ asked_return_none more.asks.extends
-      ])
+  kept_allocated size align reply did = grind (arith, kept_asked, asked_return_none, none_return_none)
 
   pub kept_reallocated : (addr size : ℕ) (reply : Option ℕ)
       → FlexSteps 64 64 terms_of MayOwe PageLeads f f' (FlexReallocates 64 64 (terms_of f.source) f.state addr size reply) → KeepsMemory f f'
-  kept_reallocated addr size None did =
-      kept_asked (FlexReallocates 64 64 (terms_of f.source) f.state addr size None) did (λ notes is. asked_return_none is.asks.extends)
-  kept_reallocated addr size (Some to) did =
-      kept_asked (FlexReallocates 64 64 (terms_of f.source) f.state addr size (Some to)) did (λ notes is. elim is [
-        | inl room ↦ none_return_none notes room.none
-        | inr more ↦ asked_return_none more.asks.extends
-      ])
+  kept_reallocated addr size reply did = grind (arith, kept_asked, asked_return_none, none_return_none)
 
   -- a step that asks nothing
   pub kept_alone : (step : State → Type 0) → FlexStandsFor 64 64 terms_of MayOwe f → StepsAlone 64 64 terms_of MayOwe f f' step → SamePlace f.memory f'.memory → KeepsMemory f f'

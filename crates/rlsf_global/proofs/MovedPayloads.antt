@@ -1,5 +1,5 @@
 -- A payload moves into another one, or is resized as the allocator does.
-use Rattle.std.proofs.Common.{◌≡◌, ◌≢◌, ℕ, arith, length, Bool, true, false, List, Option, Some, None, Ok, Err, refl, sym, ◌∙◌, ap, subst, inl, inr}
+use Rattle.std.proofs.Common.{◌≡◌, ◌≢◌, ℕ, arith, length, List, Some, None, Ok, refl, sym, ◌∙◌, ap, subst, inl, inr}
 use Rattle.std.proofs.lemmas.Bool.{cases_eq}
 use Rattle.std.proofs.lemmas.Option.{none-some}
 use Rattle.std.specs.declared.num.NonZeroUsize.{NonZeroUsize}

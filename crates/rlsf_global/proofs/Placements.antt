@@ -35,12 +35,12 @@ pub same_heap : (f f' : FlexContents PageCursor) (rows : List Row) → f'.state 
 same_heap f f' rows same stays i = record { flex = same i; source = stays i; asked = rows }
 
 -- where no memory came, the cursor stays too
-pub refusal_stays : (f f' : FlexContents PageCursor) (wanted : Option ℕ) (made : List Note → FlexState → Type 0) → FlexSteps 64 64 terms_of MayOwe PageLeads f f' made
-    → ((notes : List Note) → made notes f'.state → Extends 64 (terms_of f.source) f.state wanted refused notes f'.state)
+pub refusal_stays : (f f' : FlexContents PageCursor) (made : List Note → FlexState → Type 0) → FlexSteps 64 64 terms_of MayOwe PageLeads f f' made
+    → ((notes : List Note) → made notes f'.state → (wanted : Option ℕ) × Extends 64 (terms_of f.source) f.state wanted refused notes f'.state)
     → f'.state ≡ f.state → f'.memory.bytes ≡ f.memory.bytes → StaysRefused f f'
-refusal_stays f f' wanted made steps asks same kept =
+refusal_stays f f' made steps asks same kept =
     let (notes, step, led, outside, stands) = flex_opened f f' made steps in
-    let source = refused_notes f.source f'.source _ _ (subst (λ ns. LeadsBy PageLeads f.source ns f'.source) (asks notes step).asked led) in
+    let source = refused_notes f.source f'.source _ _ (subst (λ ns. LeadsBy PageLeads f.source ns f'.source) (asks notes step).1.asked led) in
     record { stands = stands; state = same; source = source; bytes = kept }
 
 -- and the step is one from a heap to itself

@@ -8,7 +8,7 @@ use Rattle.rlsf_global.proofs.moves.move_away.Goals as goal
 pub returns-in_err-to : goal.returns-in_err-to
 returns-in_err-to g c =
     let did = c.in_err-to.ensures in
-    let stays = refusal_stays c.args.flex.now c.allocate.new.self _ _ did.step (λ notes is. is.extends) did.refused.same did.refused.bytes in
+    let stays = refusal_stays c.args.flex.now c.allocate.new.self _ did.step (λ notes is. (_, is.extends)) did.refused.same did.refused.bytes in
     rw c.from_residual.ensures (record {
       step = tt;
       moved = tt;

@@ -29,7 +29,7 @@ steps_with g c o is = subst
 stays : (g : given.Over) (c : goal.After-reallocate g) → c.reallocate.result ≡ None → StaysRefused c.args.flex.now c.reallocate.new.self
 stays g c none =
     let is = none_of c.reallocate.result none c.reallocate.ensures.refused in
-    refusal_stays c.args.flex.now c.reallocate.new.self _ _ (steps_with g c None none) (λ notes step. step.asks.extends) is.same is.bytes
+    refusal_stays c.args.flex.now c.reallocate.new.self _ (steps_with g c None none) (λ notes step. (_, step.asks.extends)) is.same is.bytes
 
 pub returns-then-ENABLE_REALLOCATION : goal.returns-then-ENABLE_REALLOCATION
 returns-then-ENABLE_REALLOCATION g c = record {

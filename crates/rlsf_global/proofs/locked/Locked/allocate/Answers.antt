@@ -29,7 +29,7 @@ returns-then-is_err g c = rw (← c.self.view_is) (record {
 stays : (g : given.Over) (c : In_default g) → StaysRefused c.self.inside.flex c.allocate.new.self
 stays g c =
     let did = c.in_default.ensures in
-    refusal_stays c.self.inside.flex c.allocate.new.self _ _ did.step (λ notes is. is.extends) did.refused.same did.refused.bytes
+    refusal_stays c.self.inside.flex c.allocate.new.self _ did.step (λ notes is. (_, is.extends)) did.refused.same did.refused.bytes
 
 pub invariant_of-self-in_default : goal.invariant_of-self-in_default
 invariant_of-self-in_default g c =
