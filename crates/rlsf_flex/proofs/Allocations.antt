@@ -1,24 +1,25 @@
 -- An allocation of the allocator over a source.
-use Rattle.std.proofs.Common.{◌≡◌, ℕ, Bool, true, false, true≢false, List, [], Option, Some, None, IfNone, refl, sym, ◌∙◌, ap, subst, inl, inr}
+use Rattle.std.proofs.Common.{◌≡◌, ℕ, Bool, true, false, true≢false, List, [], Option, Some, None, IfNone, IsSome, refl, sym, ◌∙◌, ap, subst, inl, inr}
 use Rattle.std.proofs.lemmas.Option.{none-some}
 use Rattle.rlsf_base.specs.declared.memory.range.Range.{Range}
 use Rattle.rlsf_base.specs.SizeClass.{IsValid}
 use Rattle.rlsf_base.specs.Sizes.{pool_size_to_contain_allocation}
 use Rattle.rlsf_base.specs.Space.{SamePlace, Space}
 use Rattle.rlsf_tlsf.specs.Allocator.{Allocator, Steps}
+use Rattle.rlsf_tlsf.specs.Bounds.{IfWithinBounds}
 use Rattle.rlsf_blocks.specs.Spare.{KeepsSpare}
 use Rattle.rlsf_flex.specs.Outside.{KeepsOutside}
 use Rattle.rlsf_flex.specs.Steps.Outside.{KeepsOutsideNow}
+use Rattle.rlsf_flex.specs.Results.{SucceedsUnasked}
 use Rattle.rlsf_flex.specs.SpareBytes.{KeepsSpareButFooter}
 use Rattle.rlsf_flex.specs.StandsFor.{FlexContents, FlexStandsFor, FlexSteps, allocator_of, with_allocator}
 use Rattle.rlsf_flex.specs.Steps.Growth.{Extended}
 use Rattle.rlsf_model.specs.Allocate.{Allocates}
-use Rattle.rlsf_model.specs.Answers.{MayAnswerAll}
 use Rattle.rlsf_model.specs.FlexAllocate.{Asks, FlexAllocates}
-use Rattle.rlsf_model.specs.FlexState.{FlexState, with_machine}
+use Rattle.rlsf_model.specs.FlexState.{with_machine}
 use Rattle.rlsf_model.specs.FlexWellFormed.{IsNewest}
-use Rattle.rlsf_model.specs.Growth.{Extends, Outcome, range_came, growth_came, is_more, refused, TakesIn}
-use Rattle.rlsf_model.specs.Note.{Note, LeadsBy}
+use Rattle.rlsf_model.specs.Growth.{Outcome, range_came, growth_came, is_more, refused, TakesIn}
+use Rattle.rlsf_model.specs.Note.{Note}
 use Rattle.rlsf_model.specs.State.{State}
 use Rattle.rlsf_model.specs.Terms.{Terms}
 use Rattle.rlsf_model.proofs.Chunks.{chunks-allocated}
@@ -33,6 +34,21 @@ use Rattle.rlsf_flex.proofs.InnerAllocator.{opened}
 pub not_none : {A : Type 0} (P : Type 0) (o : Option A) → (o ≡ None → ⊥) → IfNone o P
 not_none P None some = absurd (some refl)
 not_none P (Some x) some = tt
+
+-- what holds where there is none
+pub none_of : {A P : Type 0} (o : Option A) → o ≡ None → IfNone o P → P
+none_of None is holds = holds
+none_of (Some x) is holds = absurd (none-some x (sym is))
+
+-- what is refused though it can't be within bounds is so within none
+pub never_within : {S A : Type 0} {sllen size align : ℕ} {before after : FlexContents S} {succeeds : Type 0} (o : Option A) → o ≡ None
+    → IfWithinBounds sllen before.state.machine size align (IsSome o) → SucceedsUnasked sllen before after size align succeeds
+never_within None is sure =
+    record {
+      room = λ n s a sized few short fits. absurd (true≢false (sym (sure n s a sized few short fits)));
+      unasked = λ n s a sized few short fits. absurd (true≢false (sym (sure n s a sized few short fits)));
+    }
+never_within (Some x) is sure = absurd (none-some x (sym is))
 
 -- an allocation isn't both refused and made
 pub refused_alone : (sllen size align addr : ℕ) (s t u : State) → Allocates sllen s size align None t → Allocates sllen s size align (Some addr) u → ⊥
@@ -107,72 +123,61 @@ module _ {S : Type 0} {fllen sllen : ℕ} {terms : S → Terms} {owes : S → Li
       [],
       record {
         full = tried.full;
-        extends = subst (λ o. Extends fllen (terms v.source) v.state o refused [] w.state) (sym none) (record { possible = tt; asked = refl; after = tried.same });
+        extends = rw none (record { possible = tt; asked = refl; after = tried.same });
       },
       tried.source,
       λ n i. absurd i,
-      subst (λ (s : FlexState). KeepsOutside v.memory v.state.pools [] w.memory s.pools) (sym tried.same) (KeepsOutside-alone v.memory w.memory v.state.pools tried.still),
+      rw tried.same (KeepsOutside-alone v.memory w.memory v.state.pools tried.still),
       tried.stands,
-      subst (λ (s : FlexState). KeepsSpareButFooter (terms v.source) v.memory v.state w.memory s) (sym tried.same)
-          (KeepsSpareButFooter-all (terms v.source) v.memory w.memory v.state v.state tried.spare),
+      rw tried.same (KeepsSpareButFooter-all (terms v.source) v.memory w.memory v.state v.state tried.spare),
     )
 
     module _ {leads : S → Note → S → Type 0} {e : ℕ} (wanted : pool_size_to_contain_allocation fllen sllen size align ≡ Some e) {after : FlexContents S} {more : Bool}
         (h : Extended fllen sllen terms owes leads w after e more) where
-      asked_extends : Extends fllen (terms v.source) v.state (Some e) h.outcome h.notes after.state
-      asked_extends = subst (λ (s : FlexState). Extends fllen (terms v.source) s (Some e) h.outcome h.notes after.state) tried.same
-          (subst (λ x. Extends fllen (terms x) w.state (Some e) h.outcome h.notes after.state) tried.source h.extends)
+      same_in : w ≡ record { memory = w.memory; table = w.table; source = v.source; state = v.state }
+      same_in i = record { memory = w.memory; table = w.table; source = tried.source i; state = tried.same i }
 
-      -- what was asked is what the reference model asks
-      pub asks : Asks fllen sllen (terms v.source) v.state size align h.outcome h.notes after.state
-      asks = record { full = tried.full; extends = subst (λ o. Extends fllen (terms v.source) v.state o h.outcome h.notes after.state) (sym wanted) asked_extends }
+      -- what was asked, in the state before
+      pub as_asked : Extended fllen sllen terms owes leads (record { memory = w.memory; table = w.table; source = v.source; state = v.state }) after e more
+      as_asked = subst (λ (u : FlexContents S). Extended fllen sllen terms owes leads u after e more) same_in h
 
-      pub asked_by : LeadsBy leads v.source h.notes after.source
-      asked_by = subst (λ x. LeadsBy leads x h.notes after.source) tried.source h.leads_by
-
-      pub asked_answers : MayAnswerAll (terms v.source) v.state.pools h.notes
-      asked_answers =
-          subst (λ (s : FlexState). MayAnswerAll (terms v.source) s.pools h.notes) tried.same (subst (λ x. MayAnswerAll (terms x) w.state.pools h.notes) tried.source h.answers)
+      -- is what the reference model asks
+      pub asks : Asks fllen sllen (terms v.source) v.state size align as_asked.outcome as_asked.notes after.state
+      asks = record { full = tried.full; extends = rw wanted as_asked.extends }
 
       pub asked_outside : KeepsOutsideNow v.memory v.state.pools after.memory after.state.pools
-      asked_outside =
-          KeepsOutsideNow-then v.memory w.memory after.memory v.state.pools v.state.pools after.state.pools tried.still
-          (subst (λ (s : FlexState). KeepsOutsideNow w.memory s.pools after.memory after.state.pools) tried.same h.outside)
+      asked_outside = KeepsOutsideNow-then v.memory w.memory after.memory v.state.pools v.state.pools after.state.pools tried.still as_asked.outside
 
       -- what keeps the bytes outside of the ranges keeps those outside of all that were outstanding
-      pub asked_noted : (n : Space) → KeepsOutsideNow v.memory v.state.pools n after.state.pools → KeepsOutside v.memory v.state.pools h.notes n after.state.pools
+      pub asked_noted : (n : Space) → KeepsOutsideNow v.memory v.state.pools n after.state.pools → KeepsOutside v.memory v.state.pools as_asked.notes n after.state.pools
       asked_noted n =
           KeepsOutside-asked fllen (terms v.source) v.state after.state e
-          (subst (λ (s : FlexState). IsNewest (terms v.source) s.kept s.pools s.machine.chunks) tried.same
-          (subst (λ x. IsNewest (terms x) w.state.kept w.state.pools w.state.machine.chunks) tried.source tried.stands.well_formed.newest))
-          v.memory n asked_extends
+          (subst (λ (u : FlexContents S). IsNewest (terms u.source) u.state.kept u.state.pools u.state.machine.chunks) same_in tried.stands.well_formed.newest)
+          v.memory n as_asked.extends
 
       pub asked_spare : KeepsSpareButFooter (terms v.source) v.memory v.state after.memory after.state
-      asked_spare =
-          KeepsSpareButFooter-behind (terms v.source) v.memory w.memory after.memory v.state after.state tried.still.place tried.spare
-          (subst (λ (s : FlexState). KeepsSpareButFooter (terms v.source) w.memory s after.memory after.state) tried.same
-          (subst (λ x. KeepsSpareButFooter (terms x) w.memory w.state after.memory after.state) tried.source h.spare))
+      asked_spare = KeepsSpareButFooter-behind (terms v.source) v.memory w.memory after.memory v.state after.state tried.still.place tried.spare as_asked.spare
 
       -- nothing came
       pub nothing_more : more ≡ false → FlexSteps fllen sllen terms owes leads v after (FlexAllocates fllen sllen (terms v.source) v.state size align None)
       unfolding FlexSteps
       nothing_more is = (
-        h.notes,
-        subst (λ o. Asks fllen sllen (terms v.source) v.state size align o h.notes after.state) (nothing_came h.outcome (sym is ∙ h.came)) asks,
-        asked_by,
-        asked_answers,
+        as_asked.notes,
+        subst (λ o. Asks fllen sllen (terms v.source) v.state size align o as_asked.notes after.state) (nothing_came as_asked.outcome (sym is ∙ as_asked.came)) asks,
+        as_asked.leads_by,
+        as_asked.answers,
         asked_noted after.memory asked_outside,
         h.stands,
         asked_spare,
       )
 
       module _ {fl_bits sl_bits : ℕ} (valid : IsValid fl_bits sl_bits fllen sllen) (is : more ≡ true) where
-        came : is_more h.outcome ≡ true
-        came = sym h.came ∙ is
+        came : is_more as_asked.outcome ≡ true
+        came = sym as_asked.came ∙ is
 
         -- what came has room
         pub more_is_found : {t : State} → Allocates sllen after.state.machine size align None t → ⊥
-        more_is_found none = pool_has_a_choice fl_bits sl_bits fllen sllen size align e after.state.machine valid wanted (h.room came) none.0
+        more_is_found none = pool_has_a_choice fl_bits sl_bits fllen sllen size align e after.state.machine valid wanted (as_asked.room came) none.0
 
         pub allocated_in_more : (last : Allocator) → SamePlace after.memory last.memory → v.memory.out ≡ [] → (reply : Option ℕ)
             → Steps fllen sllen (allocator_of after) last (Allocates sllen after.state.machine size align reply)
@@ -180,10 +185,10 @@ module _ {S : Type 0} {fllen sllen : ℕ} {terms : S → Terms} {owes : S → Li
         unfolding FlexSteps
         allocated_in_more last place whole None did = absurd (more_is_found (opened _ _ _ did).0)
         allocated_in_more last place whole (Some addr) did = (
-          h.notes,
-          inr (record { outcome = h.outcome; meanwhile = after.state; asks = asks; more = came; machine = last.state; allocates = (opened _ _ _ did).0; after = refl }),
-          asked_by,
-          asked_answers,
+          as_asked.notes,
+          inr (record { outcome = as_asked.outcome; meanwhile = after.state; asks = asks; more = came; machine = last.state; allocates = (opened _ _ _ did).0; after = refl }),
+          as_asked.leads_by,
+          as_asked.answers,
           asked_noted last.memory (KeepsOutsideNow-then v.memory after.memory last.memory v.state.pools after.state.pools after.state.pools asked_outside
               (allocated_outside last place h.stands (asked_outside.place.3 whole) (Some addr) did)),
           allocated_stands last place h.stands (asked_outside.place.3 whole) (Some addr) did,

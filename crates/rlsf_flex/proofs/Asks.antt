@@ -5,14 +5,12 @@ use Rattle.std.specs.Option.{is_some, SomeIff}
 use Rattle.std.proofs.lemmas.Bool.{cases_lt, false≢true, le-ltb, lt-ltb}
 use Rattle.std.proofs.lemmas.Option.{none-some, same_Some}
 use Rattle.rlsf_base.specs.declared.memory.range.Range.{Range}
-use Rattle.rlsf_blocks.specs.Spare.{KeepsSpare}
-use Rattle.rlsf_flex.specs.SpareBytes.{KeepsSpareButFooter}
 use Rattle.rlsf_flex.specs.StandsFor.{FlexContents, FlexStandsFor}
 use Rattle.rlsf_flex.specs.Steps.Growth.{AskedGrowth, AskedRange, Extended, MayCome, Took, outcome_of_growth, outcome_of_range}
 use Rattle.rlsf_model.specs.Answers.{MayAnswer, MayAnswerAll}
 use Rattle.rlsf_model.specs.FlexState.{FlexState, KeptPool}
 use Rattle.rlsf_model.specs.Growth.{IsPossible, Questions, growth_came, growth_note, growth_question, if_fits, is_more, notes_of, no_questions, questions, questions_for}
-use Rattle.rlsf_model.specs.Growth.{questions_kept, range_length, range_note, refused, TakesIn}
+use Rattle.rlsf_model.specs.Growth.{questions_kept, range_length, range_note, refused}
 use Rattle.rlsf_model.specs.Note.{Note, LeadsBy, alloc, grow}
 use Rattle.rlsf_model.specs.Terms.{Terms}
 use Rattle.rlsf_model.proofs.Coverage.{IsIn-append}
@@ -212,11 +210,11 @@ module _ {S : Type 0} {fllen sllen : ℕ} {terms : S → Terms} {owes : S → Li
         go (Some l) is = absurd (true≢false is)
 
     refused_notes : is_some answer ≡ false → LeadsBy leads before.source (growth_note (growth_question (terms before.source) k n) None) after.source
-    refused_notes no_more = subst (λ o. LeadsBy leads before.source (growth_note (growth_question (terms before.source) k n) o) after.source) (no_answer no_more) h.notes
+    refused_notes no_more = rw (no_answer no_more) at h.notes
 
     -- nothing came, so the state stays
     stands_still : is_some answer ≡ false → after.state ≡ before.state
-    stands_still no_more = subst (λ o. TakesIn fllen (terms before.source) before.state (outcome_of_growth o) after.state) (no_answer no_more) h.took.takes
+    stands_still no_more = rw (no_answer no_more) at h.took.takes
 
     -- growth came
     pub extended_grown : is_some answer ≡ true → Extended fllen sllen terms owes leads before after e true
@@ -228,15 +226,12 @@ module _ {S : Type 0} {fllen sllen : ℕ} {terms : S → Terms} {owes : S → Li
           outcome = growth_came l;
           notes = growth_note (growth_question (terms before.source) k n) (Some l);
           extends = record {
-            possible =
-                subst (λ q. IsPossible q (growth_came l)) (sym asks) (is_asked (growth_question (terms before.source) k n) (λ none. none-some l (sym (h.asked none) ∙ is)));
+            possible = rw asks (is_asked (growth_question (terms before.source) k n) (λ none. none-some l (sym (h.asked none) ∙ is)));
             asked = ap (λ q. notes_of q (growth_came l)) (sym asks);
-            after = subst (λ o. TakesIn fllen (terms before.source) before.state (outcome_of_growth o) after.state) is h.took.takes;
+            after = rw is at h.took.takes;
           };
-          leads_by = subst (λ o. LeadsBy leads before.source (growth_note (growth_question (terms before.source) k n) o) after.source) is h.notes;
-          answers = growth_note-answers (terms before.source) before.state.pools k n (Some l)
-              (subst (λ m. MayAnswer (terms before.source) before.state.pools (grow k.range m (Some l))) (sym (if_fits-some (k.len + e) n fits))
-              (subst (λ o. MayCome (terms before.source) before.state e (outcome_of_growth o)) is h.took.may k is_kept));
+          leads_by = rw is at h.notes;
+          answers = growth_note-answers (terms before.source) before.state.pools k n (Some l) (rw (if_fits-some (k.len + e) n fits) ((rw is at h.took.may) k is_kept));
           outside = h.took.outside;
           spare = h.took.spare;
           stands = h.took.stands;
@@ -271,33 +266,21 @@ module _ {S : Type 0} {fllen sllen : ℕ} {terms : S → Terms} {owes : S → Li
         let t = terms before.source in
         let q : questions t before.state.kept (Some e) ≡ record { growth = growth_question t k n; range = range_length t e } =
         asks ∙ ap (λ (c : Bool). let q : Questions = record { growth = growth_question t k n; range = cond c None (range_length t e) } in q) many in
-        let notes : LeadsBy leads after.source (range_note (range_length t e) second) last.source =
-        subst (λ t. LeadsBy leads after.source (range_note (range_length t e) second) last.source) same r.notes in
-        let asked : range_length t e ≡ None → second ≡ None = subst (λ t. range_length t e ≡ None → second ≡ None) same r.asked in
-        let still : KeepsSpare before.memory before.state.machine after.memory before.state.machine =
-        KeepsSpare-room t before.memory after.memory before.state before.state refl
-        (subst (λ s. KeepsSpareButFooter t before.memory before.state after.memory s) (stands_still no_more) h.took.spare) in
-        let spare : KeepsSpareButFooter t after.memory before.state last.memory last.state =
-        subst (λ t. KeepsSpareButFooter t after.memory before.state last.memory last.state) same
-        (subst (λ s. KeepsSpareButFooter (terms after.source) after.memory s last.memory last.state) (stands_still no_more) r.took.spare) in
-        let may : MayCome t before.state e (outcome_of_range second) =
-        subst (λ t. MayCome t before.state e (outcome_of_range second)) same
-        (subst (λ s. MayCome (terms after.source) s e (outcome_of_range second)) (stands_still no_more) r.took.may) in
+        let still = KeepsSpare-room t before.memory after.memory before.state before.state refl (rw (stands_still no_more) at h.took.spare) in
+        let spare = rw (same, stands_still no_more) at r.took.spare in
         record {
           outcome = outcome_of_range second;
           notes = growth_note (growth_question t k n) None ++ range_note (range_length t e) second;
           extends = record {
-            possible = subst (λ q. IsPossible q (outcome_of_range second)) (sym q) (range_possible (growth_question t k n) (range_length t e) second asked);
+            possible = rw q (range_possible (growth_question t k n) (range_length t e) second (rw same at r.asked));
             asked = range_notes (growth_question t k n) (range_length t e) second ∙ ap (λ q. notes_of q (outcome_of_range second)) (sym q);
-            after =
-                subst (λ t. TakesIn fllen t before.state (outcome_of_range second) last.state) same
-                (subst (λ s. TakesIn fllen (terms after.source) s (outcome_of_range second) last.state) (stands_still no_more) r.took.takes);
+            after = rw (same, stands_still no_more) at r.took.takes;
           };
-          leads_by = LeadsBy-append leads before.source after.source last.source _ _ (refused_notes no_more) notes;
+          leads_by = LeadsBy-append leads before.source after.source last.source _ _ (refused_notes no_more) (rw same at r.notes);
           answers =
               MayAnswerAll-append t before.state.pools (growth_note (growth_question t k n) None) (range_note (range_length t e) second)
               (growth_note-answers t before.state.pools k n None tt)
-              (range_note-answers t before.state e (range_length t e) refl second may);
+              (range_note-answers t before.state e (range_length t e) refl second (rw (same, stands_still no_more) at r.took.may));
           outside = KeepsOutsideNow-then before.memory after.memory last.memory before.state.pools after.state.pools last.state.pools h.took.outside r.took.outside;
           spare = KeepsSpareButFooter-behind t before.memory after.memory last.memory before.state last.state h.took.outside.place still spare;
           stands = r.took.stands;

@@ -4,7 +4,7 @@ use Rattle.rlsf_base.specs.declared.memory.range.Range.{Range}
 use Rattle.rlsf_base.specs.Space.{SamePlace}
 use Rattle.rlsf_blocks.specs.StandsFor.{contents, StandsFor}
 use Rattle.rlsf_tlsf.specs.Allocator.{Allocator, IsInState, Stands, Steps}
-use Rattle.rlsf_flex.specs.StandsFor.{FlexContents, FlexStandsFor, StepsAlone, allocator_of, with_allocator}
+use Rattle.rlsf_flex.specs.StandsFor.{FlexContents, FlexStandsFor, IsFlexTlsf, StepsAlone, allocator_of, with_allocator}
 use Rattle.rlsf_model.specs.State.{State}
 use Rattle.rlsf_model.specs.Terms.{Terms}
 use Rattle.rlsf_flex.proofs.Frames.{stands_stepped}
@@ -27,3 +27,10 @@ module _ {S : Type 0} {fllen sllen : ℕ} {terms : S → Terms} {owes : S → Li
   pub steps_alone : StepsAlone fllen sllen terms owes v (with_allocator v new) step
   unfolding StepsAlone
   steps_alone = let (is, stands, spare) = opened _ new step did in (is, refl, stands_alone, spare)
+
+-- and what is true of every allocator's fields stays true
+pub IsFlexTlsf-alone : {S : Type 0} {fl_bits sl_bits fllen sllen : ℕ} {terms : S → Terms} {owes : S → List Range → Type 0} {v : FlexContents S}
+    → IsFlexTlsf fl_bits sl_bits fllen sllen terms owes v → (new : Allocator) (step : State → Type 0) → SamePlace v.memory new.memory
+    → new.state.chunks ≡ v.state.machine.chunks → Steps fllen sllen (allocator_of v) new step → IsFlexTlsf fl_bits sl_bits fllen sllen terms owes (with_allocator v new)
+IsFlexTlsf-alone is new step place chunks did =
+    record { valid = is.valid; stands = stands_alone is.stands new step place is.whole chunks did; whole = place.3 is.whole }

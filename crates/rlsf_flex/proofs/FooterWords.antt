@@ -1,6 +1,6 @@
 -- The two words of a footer, written and read.
 use Rattle.std.proofs.Common.{◌≡◌, ℕ, ◌+◌, ◌-◌, ◌^◌, ◌<◌, ◌≤◌, ◌⊎◌, List, [], ◌∷◌, Option, Some, None, arith, refl, sym, ◌∙◌, ap}
-use Rattle.std.proofs.Common.{inl, inr, cond, eqb}
+use Rattle.std.proofs.Common.{inl, cond, eqb}
 use Rattle.std.proofs.lemmas.Bool.{cases_lt, ne_eqb}
 use Rattle.rlsf_base.specs.declared.memory.range.Range.{Range}
 use Rattle.rlsf_base.specs.Range.{range_at}
@@ -27,10 +27,7 @@ out-written m n a place none = place.3 none ∙ sym (back-none m.out (a - m.star
 
 -- a byte that a word doesn't have is before it or behind it
 side : (a at : ℕ) → (at ≤ a → a < at + 8 → ⊥) → (a + 1 ≤ at) ⊎ (at + 8 ≤ a)
-side a at apart = elim (cases_lt a at) [
-  | inl low ↦ inl (omega (arith, low))
-  | inr high ↦ elim (cases_lt a (at + 8)) [ inl below ↦ absurd (apart high below) | inr above ↦ inr above ]
-]
+side a at apart = grind (arith, cases_lt)
 
 -- the two words were written, one after the other
 pub writes_footer : (m k n : Space) (p : Range) (at start len : ℕ) → at ≡ footer_of p → m.out ≡ [] → IsWord m (footer_of p) → IsWord m (footer_of p + 8)

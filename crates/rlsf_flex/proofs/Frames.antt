@@ -62,10 +62,7 @@ module _ {fllen sllen : ℕ} (m : Space) (s : State) (space : Range) (pools : Li
       omega arith
 
   pub spare_footer : HasSpareFooter m s p
-  spare_footer = (
-    ((omega arith, (omega (arith, long, inside), omega (arith, long, inside))), λ a low high. apart a low (omega (arith, high))),
-    ((omega arith, (omega (arith, long, inside), omega (arith, long, inside))), λ a low high. apart a (omega (arith, low)) (omega (arith, high))),
-  )
+  spare_footer = grind (arith, long, inside, apart)
 
   pub footer_ends : (16 ≤ end_of p) × (end_of p < 2 ^ 64)
   footer_ends = (omega (arith, long), omega (arith, inside, w.addressable))

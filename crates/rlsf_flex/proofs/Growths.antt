@@ -61,11 +61,7 @@ module _ {S : Type 0} {fl_bits sl_bits fllen sllen e : ℕ} (valid : IsValid fl_
 
   -- the longer range is outstanding beside the others
   outstanding : AreOutstanding (terms v.source).space (with_len k.range len ∷ c.kept.rest)
-  outstanding =
-      let old = old_pools c.before.well_formed c.was asked len c.kept c.is_grown more in
-      let (enough, grew, long) = Grew-longer in
-      AreOutstanding-more (terms v.source).space (with_len k.range len) c.kept.rest (AreOutstanding-rest (terms v.source).space k.range c.kept.rest old) c.is_grown.lies_in
-      c.is_grown.apart (omega arith)
+  outstanding = grind (arith, old_pools, more, Grew-longer, AreOutstanding-more, AreOutstanding-rest)
 
   -- before the new bytes are inserted, footers can be written
   pub Grew-footers : (m : Space) → IsWellFormed fllen sllen (range_of m) v.state.machine → SamePlace v.memory m → (p : Range)

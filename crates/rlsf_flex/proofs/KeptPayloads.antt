@@ -1,8 +1,6 @@
 -- Growth leaves the payloads, one after another.
-use Rattle.std.proofs.Common.{◌≡◌, ◌≤◌, ℕ, ap, arith, refl, subst, sym, ◌∙◌}
+use Rattle.std.proofs.Common.{◌≡◌, ◌≤◌, ℕ, arith, refl}
 use Rattle.rlsf_base.specs.Space.{SamePlace}
-use Rattle.rlsf_model.specs.Callers.{align_at, bytes_at}
-use Rattle.rlsf_model.specs.Sized.{IsSizedFor, live_count}
 use Rattle.rlsf_tlsf.specs.Allocator.{Allocator}
 use Rattle.rlsf_flex.specs.Steps.Growth.{HasSamePayloads}
 use Rattle.rlsf_flex.proofs.Places.{SamePlace-refl, SamePlace-then}
@@ -15,24 +13,8 @@ HasSamePayloads-refl v =
 -- the state stayed
 pub HasSamePayloads-same : {sllen : ℕ} (v w : Allocator) → w.state ≡ v.state → SamePlace v.memory w.memory → v.memory.touches ≤ w.memory.touches
     → w.memory.copied ≡ v.memory.copied → HasSamePayloads sllen v w
-HasSamePayloads-same {sllen} v w same place grow copied = record {
-  aligns = ap align_at same;
-  bytes = ap bytes_at same;
-  count = ap live_count same;
-  bounds = λ count size align sized. subst (IsSizedFor sllen count size align) (sym same) sized;
-  place = place;
-  grow = grow;
-  copied = copied;
-}
+HasSamePayloads-same {sllen} v w same place grow copied = grind arith
 
 -- one growth and then another
 pub HasSamePayloads-trans : {sllen : ℕ} (u v w : Allocator) → HasSamePayloads sllen u v → HasSamePayloads sllen v w → HasSamePayloads sllen u w
-HasSamePayloads-trans u v w first second = record {
-  aligns = second.aligns ∙ first.aligns;
-  bytes = second.bytes ∙ first.bytes;
-  count = second.count ∙ first.count;
-  bounds = λ count size align sized. second.bounds count size align (first.bounds count size align sized);
-  place = SamePlace-then u.memory v.memory w.memory first.place second.place;
-  grow = omega (arith, first.grow, second.grow);
-  copied = second.copied ∙ first.copied;
-}
+HasSamePayloads-trans u v w first second = grind (arith, SamePlace-then)

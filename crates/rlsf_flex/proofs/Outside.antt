@@ -10,7 +10,7 @@ use Rattle.rlsf_flex.specs.Outside.{IsOutside, KeepsOutside, NothingGoesBack, ev
 use Rattle.rlsf_flex.specs.Steps.Outside.{KeepsOutsideNow}
 use Rattle.rlsf_model.specs.FlexState.{FlexState, KeptPool}
 use Rattle.rlsf_model.specs.FlexWellFormed.{AreHoused, IsNewest}
-use Rattle.rlsf_model.specs.Growth.{Extends, IsPossible, Outcome, range_came, growth_came, growth_note, if_fits, longer, notes_of, questions, questions_kept, range_note, refused}
+use Rattle.rlsf_model.specs.Growth.{Extends, IsPossible, Outcome, range_came, growth_came, growth_note, notes_of, questions, questions_kept, range_note, refused}
 use Rattle.rlsf_model.specs.Growth.{TakesIn}
 use Rattle.rlsf_model.specs.Note.{Note, dealloc}
 use Rattle.rlsf_model.specs.State.{State}
@@ -124,31 +124,9 @@ IsKnown before after notes = (a : ℕ)
 
 module _ (fllen : ℕ) (t : Terms) (s u : FlexState) (e : ℕ) (newest : IsNewest t s.kept s.pools s.machine.chunks) where
   known : (o : Outcome) → IsPossible (questions t s.kept (Some e)) o → TakesIn fllen t s o u → IsKnown s.pools u.pools (notes_of (questions t s.kept (Some e)) o)
-  known refused possible same a =
-      let q = questions t s.kept (Some e) in
-      let is = ap (λ rs. coverage itself rs a) (handed-refused q.growth q.range) in
-      let owed = ap (λ (v : FlexState). coverage itself v.pools a) {x = u} same in (
-        λ none. omega (arith, ever_owed-coverage s.pools (notes_of q refused) a, is, owed, none),
-        λ none before. omega (arith, ever_owed-coverage s.pools (notes_of q refused) a, is, before),
-      )
-  known (range_came r) possible (len, inserts, pools, kept) a =
-      let q = questions t s.kept (Some e) in
-      let is = ap (λ rs. coverage itself rs a) (handed-given q.growth q.range r possible) in
-      let owed = ap (λ rs. coverage itself rs a) pools in (
-        λ none. omega (arith, ever_owed-coverage s.pools (notes_of q (range_came r)) a, is, owed, none),
-        λ none before. omega (arith, ever_owed-coverage s.pools (notes_of q (range_came r)) a, is, owed, none, before),
-      )
-  known (growth_came len) possible (k, taken, was, appends, pools, kept) a =
-      let q = questions t s.kept (Some e) in
-      let (r, n, is_asked, handed_is) = handed-grown q.growth len possible in
-      let kept_pool = subst (λ o. IsNewest t o s.pools s.machine.chunks) was newest in
-      let range : r ≡ k.range = growth_of_kept t k e (if_fits (k.len + e)) r n (sym (ap (λ o. (questions t o (Some e)).growth) was) ∙ is_asked) in
-      let is = ap (λ rs. coverage itself rs a) (handed_is ∙ ap (λ q. with_len q len ∷ []) range) in
-      let split = ap (λ rs. coverage itself rs a) kept_pool.split in
-      let owed = ap (λ rs. coverage itself rs a) (pools ∙ ap (longer len) kept_pool.split) in (
-        λ none. omega (arith, ever_owed-coverage s.pools (notes_of q (growth_came len)) a, is, split, owed, none),
-        λ none before. omega (arith, ever_owed-coverage s.pools (notes_of q (growth_came len)) a, is, split, owed, none, before),
-      )
+  known refused possible same a = grind (arith, handed-refused, ever_owed-coverage)
+  known (range_came r) possible (len, inserts, pools, kept) a = grind (arith, handed-given, ever_owed-coverage)
+  known (growth_came len) possible (k, taken, was, appends, pools, kept) a = grind (arith, handed-grown, growth_of_kept, ever_owed-coverage)
 
   -- so what asks for memory keeps the bytes outside of the ranges
   pub KeepsOutside-asked : {o : Outcome} {notes : List Note} (m n : Space) → Extends fllen t s (Some e) o notes u → KeepsOutsideNow m s.pools n u.pools

@@ -1,5 +1,5 @@
 -- What leaves the bytes outside of the outstanding ranges, where no range is returned.
-use Rattle.std.proofs.Common.{ℕ, ◌≤◌, Bool, List, arith, refl, ◌∙◌}
+use Rattle.std.proofs.Common.{ℕ, ◌≤◌, Bool, List, arith, refl}
 use Rattle.rlsf_base.specs.declared.memory.range.Range.{Range}
 use Rattle.rlsf_base.specs.Space.{Space, SamePlace}
 use Rattle.rlsf_blocks.specs.Spare.{IsSpare, KeepsSpare}
@@ -45,18 +45,10 @@ KeepsOutsideNow-stands {v = v} {new = new} before after place keeps =
 -- one after the other
 pub KeepsOutsideNow-then : (m n o : Space) (first second third : List Range) → KeepsOutsideNow m first n second → KeepsOutsideNow n second o third
     → KeepsOutsideNow m first o third
-KeepsOutsideNow-then m n o first second third one two = record {
-  place = SamePlace-then m n o one.place two.place;
-  only_more = λ a none. one.only_more a (two.only_more a none);
-  bytes = λ a low high none. two.bytes a (omega (arith, one.place.0, low)) (omega (arith, one.place.0, one.place.1, high)) none ∙ one.bytes a low high (two.only_more a none);
-}
+KeepsOutsideNow-then m n o first second third one two = grind (arith, SamePlace-then)
 
 -- a footer that is written lies in its range
 pub KeepsOutsideNow-footed : (takes_back : Bool) (m n : Space) (r : Range) (start len : ℕ) (before after : List Range) → IsIn r after → 64 ≤ r.len
     → ((a : ℕ) → IsOutside after a → IsOutside before a)
     → IsFooted takes_back m n r start len → KeepsOutsideNow m before n after
-KeepsOutsideNow-footed takes_back m n r start len before after i long more foot = record {
-  place = foot.place;
-  only_more = more;
-  bytes = λ a low high none. foot.bytes a low high (λ takes from to. absurd (omega (arith, coverage-in r after a i (omega arith) (omega arith), none)));
-}
+KeepsOutsideNow-footed takes_back m n r start len before after i long more foot = grind (arith, coverage-in)

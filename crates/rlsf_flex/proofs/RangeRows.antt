@@ -78,11 +78,7 @@ module _ {fllen sllen : ℕ} {memory : Range} {s : State} (w : IsWellFormed flle
 
     -- the row is idle if the range is
     pub idle_row : IsIdle s r → IsIdle s (walked (row_of r len))
-    idle_row idle a low high =
-        let within = is.within in
-        let begins = round32-le r.start in
-        let more = is.some in
-        idle a (omega arith) (omega arith)
+    idle_row idle a low high = grind (arith, round32-le)
 
     -- and the other way round, where no chunk begins before the range and ends in it
     pub idle_range : ((c : Range) (a : ℕ) → IsIn c s.chunks → r.start ≤ a → a < end_of r → c.start ≤ a → a < end_of c → r.start ≤ c.start)

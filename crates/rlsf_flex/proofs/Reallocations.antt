@@ -1,7 +1,10 @@
 -- A reallocation of the allocator over a source.
-use Rattle.std.proofs.Common.{◌≡◌, ◌≢◌, ℕ, ◌<◌, Bool, true, List, [], Option, Some, None, refl, sym, ◌∙◌, ap, subst, inl, inr}
+use Rattle.std.proofs.Common.{◌≡◌, ◌≢◌, ℕ, ◌<◌, Bool, true, List, [], Option, Some, None, IfNone, IfSome, refl, sym, ◌∙◌, ap, subst, inl, inr}
 use Rattle.std.proofs.lemmas.Option.{none-some}
+use Rattle.std.specs.declared.num.NonZeroUsize.{NonZeroUsize}
+use Rattle.rlsf_base.specs.Addr.{at, reply}
 use Rattle.rlsf_base.specs.declared.memory.range.Range.{Range}
+use Rattle.rlsf_base.specs.SizeClass.{IsValid}
 use Rattle.rlsf_base.specs.Sizes.{pool_size_to_contain_allocation}
 use Rattle.rlsf_base.specs.Space.{SamePlace}
 use Rattle.rlsf_tlsf.specs.Allocator.{Allocator, Steps}
@@ -28,7 +31,7 @@ use Rattle.rlsf_model.proofs.Chunks.{chunks-allocated, chunks-deallocated, chunk
 use Rattle.rlsf_model.proofs.Growths.{Holds-same, used-taken}
 use Rattle.rlsf_model.proofs.Live.{handed_out_is_new}
 use Rattle.rlsf_model.proofs.Payloads.{usable-short}
-use Rattle.rlsf_flex.proofs.Allocations.{Tried, asked_answers, asked_by, asked_noted, asked_outside, asked_spare, asks, refused_alone}
+use Rattle.rlsf_flex.proofs.Allocations.{Tried, as_asked, asked_noted, asked_outside, asked_spare, asks, more_is_found, refused_alone}
 use Rattle.rlsf_flex.proofs.Calls.{stands_alone}
 use Rattle.rlsf_flex.proofs.Frames.{stands_stepped}
 use Rattle.rlsf_flex.proofs.Outside.{KeepsOutside-alone}
@@ -174,24 +177,24 @@ module _ {S : Type 0} {fllen sllen : ℕ} {terms : S → Terms} {owes : S → Li
         moved_stands = stands_stepped h.stands last (stood moved.stands) moved_chunks moved.spare place ((asked_outside size align tried wanted h).place.3 whole)
 
         -- the payload moved into what came
-        pub reallocated_in_more : FlexSteps fllen sllen terms owes leads v (with_allocator after last) (FlexReallocates fllen sllen (terms v.source) v.state addr size (Some to))
+        reallocated_in_more : FlexSteps fllen sllen terms owes leads v (with_allocator after last) (FlexReallocates fllen sllen (terms v.source) v.state addr size (Some to))
         unfolding FlexSteps
-        reallocated_in_more = (
-          h.notes,
+        reallocated_in_more = let asked = as_asked size align tried wanted h in (
+          asked.notes,
           inr (record {
             block = u;
             stuck = stuck;
-            outcome = h.outcome;
+            outcome = asked.outcome;
             meanwhile = after.state;
-            asks = subst (λ k. Asks fllen sllen (terms v.source) v.state size k h.outcome h.notes after.state) (sym is) (asks size align tried wanted h);
-            more = sym h.came ∙ came;
+            asks = subst (λ k. Asks fllen sllen (terms v.source) v.state size k asked.outcome asked.notes after.state) (sym is) (asks size align tried wanted h);
+            more = sym asked.came ∙ came;
             machine = last.state;
             moves = moves;
             elsewhere = λ at. moved_elsewhere h.stands.machine.well_formed u Holds-came.0 size to last.state moves (at ∙ sym Holds-came.1);
             after = refl;
           }),
-          asked_by size align tried wanted h,
-          asked_answers size align tried wanted h,
+          asked.leads_by,
+          asked.answers,
           asked_noted size align tried wanted h last.memory
               (KeepsOutsideNow-then v.memory after.memory last.memory v.state.pools after.state.pools after.state.pools (asked_outside size align tried wanted h)
               (KeepsOutsideNow-stands h.stands moved_stands place moved.spare)),
@@ -199,3 +202,11 @@ module _ {S : Type 0} {fllen sllen : ℕ} {terms : S → Terms} {owes : S → Li
           KeepsSpareButFooter-before (terms v.source) v.memory after.memory last.memory v.state after.state (asked_outside size align tried wanted h).place
               (asked_spare size align tried wanted h) last.state moved_chunks moved.spare,
         )
+
+      -- so it does, for what came has room
+      pub reallocation_in_more : {fl_bits sl_bits : ℕ} → IsValid fl_bits sl_bits fllen sllen → (last : Allocator) → more ≡ true → SamePlace after.memory last.memory
+          → v.memory.out ≡ [] → (o : Option NonZeroUsize) → IfNone o (Allocates sllen after.state.machine size align None after.state.machine)
+          → IfSome o (λ to. MovesPayload fllen sllen (allocator_of after) last addr size (at to))
+          → FlexSteps fllen sllen terms owes leads v (with_allocator after last) (FlexReallocates fllen sllen (terms v.source) v.state addr size (reply o))
+      reallocation_in_more valid last came place whole None none moved = absurd (more_is_found size align tried wanted h valid came none)
+      reallocation_in_more valid last came place whole (Some to) none moved = reallocated_in_more last came place whole moved

@@ -44,12 +44,7 @@ Footers-written m n r start len ps none w long apart placed = Footers-read m n p
 
 pub IsFooted-written : (takes_back : Bool) (m n : Space) (r : Range) (start len start' len' : ℕ) → takes_back ≡ true → WritesFooter m n r start' len' → start' ≡ start
     → len' ≡ len → IsFooted takes_back m n r start len
-IsFooted-written takes_back m n r start len start' len' is w e f =
-    record {
-      place = w.place;
-      written = λ takes. subst (λ l. WritesFooter m n r start l) f (subst (λ s. WritesFooter m n r s len') e w);
-      bytes = λ a low high apart. w.bytes a low high (apart is);
-    }
+IsFooted-written takes_back m n r start len start' len' is w e f = grind arith
 
 pub IsFooted-none : (takes_back : Bool) (m : Space) (r : Range) (start len : ℕ) → takes_back ≡ false → IsFooted takes_back m m r start len
 IsFooted-none takes_back m r start len none = record { place = SamePlace-refl m; written = λ takes. absurd (false≢true (sym none ∙ takes)); bytes = λ a low high apart. refl }

@@ -1,5 +1,5 @@
 -- Some of the newest ranges were returned, one after another.
-use Rattle.std.proofs.Common.{◌≡◌, ℕ, ◌+◌, ◌^◌, ◌<◌, ◌≤◌, true, false, List, [], ◌∷◌, ◌++◌, length, map, append_assoc, Option, Some, None}
+use Rattle.std.proofs.Common.{◌≡◌, ℕ, ◌+◌, ◌^◌, ◌<◌, ◌≤◌, true, false, List, [], ◌∷◌, ◌++◌, length, length-append, map, append_assoc, Option, Some, None}
 use Rattle.std.proofs.Common.{arith, refl, sym, ◌∙◌, ap, subst, inl, inr}
 use Rattle.std.proofs.lemmas.List.{map-append}
 use Rattle.std.proofs.lemmas.Option.{same_Some}
@@ -39,13 +39,7 @@ pub LeavesPayloads-refl : (a : Allocator) → LeavesPayloads a a
 LeavesPayloads-refl a = record { live = refl; aligns = refl; bytes = refl; grow = omega arith; copied = refl }
 
 pub LeavesPayloads-then : {a b c : Allocator} → LeavesPayloads a b → LeavesPayloads b c → LeavesPayloads a c
-LeavesPayloads-then first then = record {
-  live = then.live ∙ first.live;
-  aligns = then.aligns ∙ first.aligns;
-  bytes = then.bytes ∙ first.bytes;
-  grow = omega (arith, first.grow, then.grow);
-  copied = then.copied ∙ first.copied;
-}
+LeavesPayloads-then first then = grind arith
 
 -- ---- the reference model's state
 
@@ -92,17 +86,7 @@ kept_to_last t s w takes (Some k) (r ∷ pools) newest pooled =
 module _ {S : Type 0} {fllen sllen : ℕ} {terms : S → Terms} {owes : S → List Range → Type 0} (leads : S → Note → S → Type 0) where
   -- none yet
   pub GaveBack-none : (v : FlexContents S) → FlexStandsFor fllen sllen terms owes v → GaveBack fllen sllen terms owes leads v v 0
-  GaveBack-none v stands = record {
-    gone = [];
-    split = refl;
-    idle = λ r i. absurd i;
-    counted = refl;
-    led = refl;
-    machine = refl;
-    place = SamePlace-refl v.memory;
-    spare = λ a low high one two. refl;
-    stands = stands;
-  }
+  GaveBack-none v stands = grind (arith, SamePlace-refl)
 
   -- one more
   pub GaveBack-next : (v w x : FlexContents S) (n : ℕ) → GaveBack fllen sllen terms owes leads v w n → GaveNewest fllen sllen terms owes leads w x
@@ -119,7 +103,7 @@ module _ {S : Type 0} {fllen sllen : ℕ} {terms : S → Terms} {owes : S → Li
             | inr none ↦ absurd none
           ]
         ];
-        counted = ap (λ k. k + 1) h.counted ∙ sym (length-more h.gone one.newest);
+        counted = omega (arith, h.counted, length-append h.gone (one.newest ∷ []));
         led = subst (λ ns. LeadsBy leads v.source ns x.source) (sym (map-append dealloc h.gone (one.newest ∷ [])))
             (LeadsBy-append leads v.source w.source x.source (map dealloc h.gone) (dealloc one.newest ∷ []) h.led (x.source, one.led, refl));
         machine = one.machine ∙ ap (removed one.newest) h.machine ∙ sym (all_removed-more h.gone one.newest v.state.machine);
@@ -129,10 +113,6 @@ module _ {S : Type 0} {fllen sllen : ℕ} {terms : S → Terms} {owes : S → Li
             one.spare a (omega (arith, h.place.0, low)) (omega (arith, h.place.0, h.place.1, high)) middle last ∙ h.spare a low high first middle;
         stands = one.stands;
       }
-    where
-      length-more : (gone : List Range) (r : Range) → length (gone ++ r ∷ []) ≡ length gone + 1
-      length-more [] r = refl
-      length-more (q ∷ gone) r = omega (arith, length-more gone r)
 
   module _ (v w : FlexContents S) (n : ℕ) (h : GaveBack fllen sllen terms owes leads v w n) where
     -- no more went than there are addresses
@@ -142,11 +122,7 @@ module _ {S : Type 0} {fllen sllen : ℕ} {terms : S → Terms} {owes : S → Li
         let few =
         length-disjoint v.state.pools v.memory.start (length v.memory.bytes) (λ p i. (omega (arith, outstanding.long p i), outstanding.in_space p i)) outstanding.disjoint in
         let short = stands.machine.well_formed.addressable in
-        omega (arith, few, short, h.counted, ap length h.split, length-both h.gone w.state.pools)
-      where
-        length-both : (xs ys : List Range) → length (xs ++ ys) ≡ length xs + length ys
-        length-both [] ys = omega arith
-        length-both (x ∷ xs) ys = omega (arith, length-both xs ys)
+        omega (arith, few, short, h.counted, ap length h.split, length-append h.gone w.state.pools)
 
     -- ---- as a step of the reference model
 

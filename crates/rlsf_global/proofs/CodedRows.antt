@@ -1,5 +1,5 @@
 -- Codes and their entries.
-use Rattle.std.proofs.Common.{◌≡◌, ◌≢◌, ◌⊎◌, ℕ, suc, ◌+◌, ◌*◌, ◌^◌, ◌-◌, ◌/◌, ◌%◌, ◌<◌, ◌≤◌, ◌==◌, nat_lt, not}
+use Rattle.std.proofs.Common.{◌≡◌, ◌≢◌, ◌⊎◌, ℕ, ◌+◌, ◌*◌, ◌^◌, ◌-◌, ◌/◌, ◌%◌, ◌<◌, ◌≤◌, ◌==◌, not}
 use Rattle.std.proofs.Common.{Bool, ◌&&◌, nat_le, true, false, List, [], ◌∷◌, get_or, length, Option, Some, None, IsSome, is_some}
 use Rattle.std.proofs.Common.{if◌then◌else◌, arith, refl, sym, ap, subst, inl, inr, ◌∙◌}
 use Rattle.std.proofs.lemmas.Bool.{cases_eq}
@@ -11,33 +11,18 @@ use Rattle.rlsf_codes.specs.declared.codes.Codes.{Codes}
 use Rattle.rlsf_global.specs.LiveRows.{AreAddresses, AreCoded, IsLiveTable, code_in, code_of}
 use Rattle.rlsf_model.specs.Lists.{IsIn}
 use Rattle.rlsf_model_global.proofs.Maps.{row_at-put_here, row_at-put_other, row_at-without_here, row_at-without_other}
-use Rattle.rlsf_model_global.proofs.Rows.{IsIn-put, IsIn-without_row, absent-row_at, put-sorted, without_row-sorted, clash, clash'}
+use Rattle.rlsf_model_global.proofs.Rows.{IsIn-put, IsIn-without_row, absent-row_at, put-sorted, without_row-sorted, clash}
 use Rattle.rlsf_model_global.specs.Rows.{IsSorted, Row, key, put, row_at, without_row}
 
 -- ---- the entry of an address
 
 pub row_at-in : (a : ℕ) (rows : List Row) (r : Row) → row_at a rows ≡ Some r → IsIn r rows × (key r ≡ a)
 row_at-in a [] r e = cc
-row_at-in a (x ∷ rows) r e = by (key x == a) (eqb_tells (key x) a) (row_at-in a rows r) e
-  where
-    by : (eq : Bool) → ((eq ≡ true) × (key x ≡ a)) ⊎ ((eq ≡ false) × (key x ≢ a)) → (row_at a rows ≡ Some r → IsIn r rows × (key r ≡ a))
-        → (if eq then Some x else row_at a rows) ≡ Some r → IsIn r (x ∷ rows) × (key r ≡ a)
-    by true (inl (_, here)) rest e = let same : r ≡ x = cc in (inl same, ap key same ∙ here)
-    by true (inr (off, _)) rest e = clash off
-    by false t rest e = let found = rest e in (inr found.0, found.1)
+row_at-in a (x ∷ rows) r e = grind (arith, eqb_tells, row_at-in a rows r)
 
 pub row_at-of : (rows : List Row) (r : Row) → IsSorted rows → IsIn r rows → row_at (key r) rows ≡ Some r
 row_at-of [] r s i = absurd i
-row_at-of (x ∷ rows) r s i = by (key x == key r) (eqb_tells (key x) (key r)) i (row_at-of rows r s.1)
-  where
-    by : (eq : Bool) → ((eq ≡ true) × (key x ≡ key r)) ⊎ ((eq ≡ false) × (key x ≢ key r)) → IsIn r (x ∷ rows)
-        → (IsIn r rows → row_at (key r) rows ≡ Some r) → (if eq then Some x else row_at (key r) rows) ≡ Some r
-    by true t (inl same) rest = ap Some (sym same)
-    by true (inl (_, same)) (inr i) rest = let above = s.0 r i in absurd (omega (arith, above, same))
-    by true (inr (off, _)) (inr i) rest = clash off
-    by false (inl (off, _)) (inl same) rest = clash' off
-    by false (inr (_, differs)) (inl same) rest = absurd (differs (sym (ap key same)))
-    by false t (inr i) rest = rest i
+row_at-of (x ∷ rows) r s i = grind (arith, eqb_tells, row_at-of rows r s.1)
 
 -- ---- the code of an address
 
@@ -128,43 +113,21 @@ module _ (c e : Codes ℕ) (rows : List Row) (coded : AreCoded c rows) (space : 
 
 pub length-put : (row : Row) (rows : List Row) → row_at (key row) rows ≡ None → length (put row rows) ≡ length rows + 1
 length-put row [] none = refl
-length-put row (r ∷ rows) none = by (nat_lt (key r) (key row)) (key r == key row) (length-put row rows) none
-  where
-    by : (lt eq : Bool) → (row_at (key row) rows ≡ None → length (put row rows) ≡ length rows + 1) → (if eq then Some r else row_at (key row) rows) ≡ None
-        → length (if lt then r ∷ put row rows else if eq then row ∷ rows else row ∷ r ∷ rows) ≡ suc (length rows) + 1
-    by lt true rest e = cc
-    by true false rest e = let h = rest e in omega (arith, h)
-    by false false rest e = omega arith
+length-put row (r ∷ rows) none = grind (arith, length-put row rows)
 
 -- no more than one more, whether the address has an entry or not
 pub length-put_most : (row : Row) (rows : List Row) → length (put row rows) ≤ length rows + 1
 length-put_most row [] = omega arith
-length-put_most row (r ∷ rows) = by (nat_lt (key r) (key row)) (key r == key row) (length-put_most row rows)
-  where
-    by : (lt eq : Bool) → length (put row rows) ≤ length rows + 1
-        → length (if lt then r ∷ put row rows else if eq then row ∷ rows else row ∷ r ∷ rows) ≤ suc (length rows) + 1
-    by true eq rest = omega (arith, rest)
-    by false true rest = omega arith
-    by false false rest = omega arith
+length-put_most row (r ∷ rows) = grind (arith, length-put_most row rows)
 
 -- one less, if the address has an entry
 length-without_most : (a : ℕ) (rows : List Row) → length (without_row a rows) ≤ length rows
 length-without_most a [] = omega arith
-length-without_most a (r ∷ rows) = by (key r == a) (length-without_most a rows)
-  where
-    by : (eq : Bool) → length (without_row a rows) ≤ length rows → length (if not eq then r ∷ without_row a rows else without_row a rows) ≤ suc (length rows)
-    by true rest = omega (arith, rest)
-    by false rest = omega (arith, rest)
+length-without_most a (r ∷ rows) = grind (arith, length-without_most a rows)
 
 pub length-without_less : (a : ℕ) (rows : List Row) → IsSome (row_at a rows) → length (without_row a rows) + 1 ≤ length rows
 length-without_less a [] some = cc
-length-without_less a (r ∷ rows) some = by (key r == a) (length-without_most a rows) (length-without_less a rows) some
-  where
-    by : (eq : Bool) → length (without_row a rows) ≤ length rows → (IsSome (row_at a rows) → length (without_row a rows) + 1 ≤ length rows)
-        → IsSome (if eq then Some r else row_at a rows)
-        → length (if not eq then r ∷ without_row a rows else without_row a rows) + 1 ≤ suc (length rows)
-    by true most rest some = omega (arith, most)
-    by false most rest some = let less = rest some in omega (arith, less)
+length-without_less a (r ∷ rows) some = grind (arith, length-without_most, length-without_less a rows)
 
 without-absent : (a : ℕ) (rows : List Row) → ((r : Row) → IsIn r rows → key r ≢ a) → without_row a rows ≡ rows
 without-absent a [] n = refl
@@ -178,14 +141,7 @@ without-absent a (r ∷ rows) n = by (key r == a) (eqb_tells (key r) a) (without
 
 pub length-without : (a : ℕ) (rows : List Row) → IsSorted rows → IsSome (row_at a rows) → length (without_row a rows) + 1 ≡ length rows
 length-without a [] s some = cc
-length-without a (r ∷ rows) s some = by (key r == a) (eqb_tells (key r) a) (length-without a rows s.1) some
-  where
-    by : (eq : Bool) → ((eq ≡ true) × (key r ≡ a)) ⊎ ((eq ≡ false) × (key r ≢ a)) → (IsSome (row_at a rows) → length (without_row a rows) + 1 ≡ length rows)
-        → IsSome (if eq then Some r else row_at a rows) → length (if not eq then r ∷ without_row a rows else without_row a rows) + 1 ≡ suc (length rows)
-    by true (inl (_, same)) rest some =
-        let e = ap length (without-absent a rows (λ x i here. let above = s.0 x i in omega (arith, above, same, here))) in omega (arith, e)
-    by true (inr (off, _)) rest some = clash off
-    by false t rest some = let e = rest some in omega (arith, e)
+length-without a (r ∷ rows) s some = grind (arith, eqb_tells, without-absent, length-without a rows s.1)
 
 -- ---- their order and their addresses
 

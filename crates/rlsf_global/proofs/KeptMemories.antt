@@ -12,7 +12,7 @@ use Rattle.rlsf_flex.proofs.Places.{SamePlace-refl, SamePlace-then}
 use Rattle.rlsf_global.specs.LiveRows.{HasCodes, LiveRows, looked}
 use Rattle.rlsf_global.specs.Locked.{locked_contents}
 use Rattle.rlsf_global.specs.Memory.{CopiesOnResize, KeepsMemory}
-use Rattle.rlsf_global.specs.Results.{KeepsLocked}
+use Rattle.rlsf_global.specs.Results.{KeepsLocked, KeepsLockedResizing, KeepsLockedWriting}
 use Rattle.rlsf_model.specs.FlexAllocate.{FlexAllocates}
 use Rattle.rlsf_model.specs.FlexReallocate.{FlexReallocates}
 use Rattle.rlsf_model.specs.FlexState.{FlexState}
@@ -75,23 +75,11 @@ module _ (f f' : FlexContents PageCursor) where
 
   pub kept_allocated : (size align : ℕ) (reply : Option ℕ)
       → FlexSteps 64 64 terms_of MayOwe PageLeads f f' (FlexAllocates 64 64 (terms_of f.source) f.state size align reply) → KeepsMemory f f'
-  kept_allocated size align None did =
-      kept_asked (FlexAllocates 64 64 (terms_of f.source) f.state size align None) did (λ notes is. asked_return_none is.extends)
-  kept_allocated size align (Some addr) did =
-      kept_asked (FlexAllocates 64 64 (terms_of f.source) f.state size align (Some addr)) did (λ notes is. elim is [
-        | inl room ↦ none_return_none notes room.none
-        | inr more ↦ asked_return_none more.asks.extends
-      ])
+  kept_allocated size align reply did = grind (arith, kept_asked, asked_return_none, none_return_none)
 
   pub kept_reallocated : (addr size : ℕ) (reply : Option ℕ)
       → FlexSteps 64 64 terms_of MayOwe PageLeads f f' (FlexReallocates 64 64 (terms_of f.source) f.state addr size reply) → KeepsMemory f f'
-  kept_reallocated addr size None did =
-      kept_asked (FlexReallocates 64 64 (terms_of f.source) f.state addr size None) did (λ notes is. asked_return_none is.asks.extends)
-  kept_reallocated addr size (Some to) did =
-      kept_asked (FlexReallocates 64 64 (terms_of f.source) f.state addr size (Some to)) did (λ notes is. elim is [
-        | inl room ↦ none_return_none notes room.none
-        | inr more ↦ asked_return_none more.asks.extends
-      ])
+  kept_reallocated addr size reply did = grind (arith, kept_asked, asked_return_none, none_return_none)
 
   -- a step that asks nothing
   pub kept_alone : (step : State → Type 0) → FlexStandsFor 64 64 terms_of MayOwe f → StepsAlone 64 64 terms_of MayOwe f f' step → SamePlace f.memory f'.memory → KeepsMemory f f'
@@ -114,9 +102,20 @@ pub keeps_unchanged : (f : FlexContents PageCursor) (live live' : LiveRows) → 
     → KeepsLocked (locked_contents f live) (locked_contents f live')
 keeps_unchanged f live live' few codes = record { memory = KeepsMemory-refl f; grow = omega arith; copied = refl; looks = few; codes = codes }
 
+-- a step was made that asks nothing
+pub keeps_alone : (f f' : FlexContents PageCursor) (live live' : LiveRows) (step : State → Type 0) → FlexStandsFor 64 64 terms_of MayOwe f
+    → StepsAlone 64 64 terms_of MayOwe f f' step → SamePlace f.memory f'.memory → f.memory.touches ≤ f'.memory.touches → f'.memory.copied ≡ f.memory.copied
+    → live'.looks ≤ live.looks + 2 → (HasCodes live → HasCodes live') → KeepsLocked (locked_contents f live) (locked_contents f' live')
+keeps_alone f f' live live' step stood did place touched copied few codes =
+    record { memory = kept_alone f f' step stood did place; grow = touched; copied = copied; looks = few; codes = codes }
+
 -- only a code was read
 pub keeps_looked : (f : FlexContents PageCursor) (live : LiveRows) → KeepsLocked (locked_contents f live) (locked_contents f (looked live))
 keeps_looked f live = keeps_unchanged f live (looked live) (omega arith) (λ has. has)
+
+pub keeps_looked_writing : (f : FlexContents PageCursor) (live : LiveRows) → KeepsLockedWriting (locked_contents f live) (locked_contents f (looked live))
+keeps_looked_writing f live =
+    record { layouts = refl; memory = KeepsMemory-refl f; grow = omega arith; copied = refl; looks = omega arith; codes = λ has. has }
 
 -- ---- one step after another
 
@@ -156,6 +155,16 @@ kept_moved f m k e size align addr copies frees takes copied place chunks freed 
 pub copies_nothing : (enabled : Bool) (s : State) (addr size wanted : ℕ) (m : Space) → CopiesOnResize enabled s addr size wanted m m
 copies_nothing enabled s addr size wanted m =
     record { grow = omega arith; room = λ on room. omega arith; stays = λ on room. refl; elsewhere = λ off. omega arith }
+
+pub keeps_looked_resizing : (enabled : Bool) (addr size wanted : ℕ) (f : FlexContents PageCursor) (live : LiveRows)
+    → KeepsLockedResizing enabled addr size wanted (locked_contents f live) (locked_contents f (looked live))
+keeps_looked_resizing enabled addr size wanted f live = record {
+  memory = KeepsMemory-refl f;
+  grow = omega arith;
+  copied = copies_nothing enabled f.state.machine addr size wanted f.memory;
+  looks = omega arith;
+  codes = λ has. has;
+}
 
 -- a move copies so many bytes at most, whether there is room for it or not
 pub copied_at_most : {A : Type 0} (o : Option A) (before after keep : ℕ) → IfSome o (λ to. after ≡ before + keep) → IfNone o (after ≡ before)

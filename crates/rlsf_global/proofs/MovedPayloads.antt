@@ -1,5 +1,5 @@
 -- A payload moves into another one, or is resized as the allocator does.
-use Rattle.std.proofs.Common.{◌≡◌, ◌≢◌, ℕ, arith, length, Bool, true, false, List, Option, Some, None, Ok, Err, refl, sym, ◌∙◌, ap, subst, inl, inr}
+use Rattle.std.proofs.Common.{◌≡◌, ◌≢◌, ℕ, arith, length, List, Some, None, Ok, refl, sym, ◌∙◌, ap, subst, inl, inr}
 use Rattle.std.proofs.lemmas.Bool.{cases_eq}
 use Rattle.std.proofs.lemmas.Option.{none-some}
 use Rattle.std.specs.declared.num.NonZeroUsize.{NonZeroUsize}
@@ -10,12 +10,10 @@ use Rattle.rlsf_flex.specs.StandsFor.{FlexContents, FlexStandsFor, FlexSteps, St
 use Rattle.rlsf_flex.proofs.InnerAllocator.{alone_opened, flex_opened}
 use Rattle.rlsf_global.specs.Locked.{IsLocked, heap_of}
 use Rattle.rlsf_model_global.specs.Pages.{MayOwe}
-use Rattle.rlsf_global.specs.Steps.Moves.{IsGivenLayout, StaysRefused}
-use Rattle.rlsf_global.proofs.Checks.{when_false, when_true}
+use Rattle.rlsf_global.specs.Steps.Moves.{IsGivenLayout}
 use Rattle.rlsf_model_global.proofs.Maps.{IsServed, Lists-moved, row_at-without_other}
 use Rattle.rlsf_global.proofs.Placements.{no_row}
-use Rattle.rlsf_model_global.proofs.PageAnswers.{refused_notes}
-use Rattle.rlsf_global.proofs.Resizes.{IsPlaced, none_left}
+use Rattle.rlsf_global.proofs.Resizes.{none_left}
 use Rattle.rlsf_model_global.proofs.Rows.{absent-row_at, put-sorted, without_row-sorted}
 use Rattle.rlsf_model.specs.Callers.{IsResizedInMap, align_at, bytes_at, payload_at}
 use Rattle.rlsf_model.specs.FlexAllocate.{FlexAllocates}
@@ -27,97 +25,27 @@ use Rattle.rlsf_model.specs.Run.{Fills, IsSomeLive, reallocate}
 use Rattle.rlsf_model.specs.State.{with_front}
 use Rattle.rlsf_model.proofs.CallerWords.{SeesFilled, align_at-none, filled_seen}
 use Rattle.rlsf_model.proofs.FlexCallers.{flex_callers_see_map}
-use Rattle.rlsf_model_global.specs.declared.error.GlobalError.TheVariants.{NoRoom, WrongLayout}
 use Rattle.rlsf_model_global.specs.Cursor.{PageCursor, PageLeads, terms_of}
-use Rattle.rlsf_model_global.specs.Heap.{Heap, Lists}
-use Rattle.rlsf_model_global.specs.Moves.{HeapMovesAway, ReallocatesAsAt, ReallocatesTo, ResizesTo, Wanted}
+use Rattle.rlsf_model_global.specs.Moves.{HeapMovesAway, ResizesTo}
 use Rattle.rlsf_model_global.specs.Rows.{Row, put, row_at, without_row}
-use Rattle.rlsf_model_global.specs.Steps.{Placed, is_same}
-
--- ---- the entry decides
-
-module _ (enabled : Bool) (h : Heap) (addr : ℕ) (layout : Layout) (n : ℕ) (row : Row) where
-  pub reallocates_in : (wanted : Layout) (result : Placed) (g : Heap) → true ≡ is_same row.1 layout → wanted.size ≡ n → wanted.align ≡ layout.align
-      → ReallocatesTo enabled h addr layout wanted result g
-      → ReallocatesAsAt enabled h addr layout n (Some row) result g
-  reallocates_in wanted result g e size align step =
-      when_true (Wanted n layout.align (λ wanted. ReallocatesTo enabled h addr layout wanted result g)) ((result ≡ Err WrongLayout) × (g ≡ h)) (is_same row.1 layout) e
-      (record { layout = wanted; size = size; align = align; made = step })
-
-  pub reallocates_out : false ≡ is_same row.1 layout → {o : Option Row} → o ≡ Some row → ReallocatesAsAt enabled h addr layout n o (Err WrongLayout) h
-  reallocates_out e found =
-      subst (λ o. ReallocatesAsAt enabled h addr layout n o (Err WrongLayout) h) (sym found)
-      (when_false (Wanted n layout.align (λ wanted. ReallocatesTo enabled h addr layout wanted (Err WrongLayout) h)) (IsPlaced (Err WrongLayout) (Err WrongLayout) × (h ≡ h))
-      (is_same row.1 layout) e (refl, refl))
 
 -- ---- the table after a move
 
-module _ (f : FlexContents PageCursor) (rows : List Row) (v : IsLocked f rows) (f' : FlexContents PageCursor) where
-  module _ (addr : ℕ) (wanted : Layout) (to : NonZeroUsize) (is : IsGivenLayout f f' addr wanted (at to)) where
-    -- once the old entry is gone, none has the new address
-    pub moved_row : row_at (at to) (without_row addr rows) ≡ None
-    moved_row = elim (cases_eq (at to) addr) [
-      | inl same ↦ none_left addr (at to) rows same
-      | inr other ↦ row_at-without_other addr rows (at to) other ∙ no_row f rows v (at to) (is.new other)
-    ]
+module _ (f : FlexContents PageCursor) (rows : List Row) (v : IsLocked f rows) (f' : FlexContents PageCursor) (addr : ℕ) (wanted : Layout) (to : NonZeroUsize)
+    (is : IsGivenLayout f f' addr wanted (at to)) where
+  -- once the old entry is gone, none has the new address
+  pub moved_row : row_at (at to) (without_row addr rows) ≡ None
+  moved_row = elim (cases_eq (at to) addr) [
+    | inl same ↦ none_left addr (at to) rows same
+    | inr other ↦ row_at-without_other addr rows (at to) other ∙ no_row f rows v (at to) (is.new other)
+  ]
 
-    pub moved_locked : (rows' : List Row) → rows' ≡ put (to, wanted) (without_row addr rows) → IsLocked f' rows'
-    moved_locked rows' now = subst (λ l. IsLocked f' l) (sym now) (record {
-      flex = is.stands;
-      sorted = put-sorted (to, wanted) (without_row addr rows) (without_row-sorted addr rows v.sorted) (absent-row_at (at to) (without_row addr rows) moved_row);
-      lists = Lists-moved rows f.state.machine f'.state.machine v.lists addr (to, wanted) (record { live = is.live; sized = is.sized; few = is.few }) is.left is.aligns is.bytes;
-    })
-
-  pub refused_locked : StaysRefused f f' → IsLocked f' rows
-  refused_locked is = record { flex = is.stands; sorted = v.sorted; lists = subst (λ (s : FlexState). Lists rows s.machine) (sym is.state) v.lists }
-
--- ---- nothing changed
-
--- heaps with equal states and equal cursors are equal
-pub same_heap : (f f' : FlexContents PageCursor) (rows : List Row) → f'.state ≡ f.state → f'.source ≡ f.source → heap_of f' rows ≡ heap_of f rows
-same_heap f f' rows same stays =
-    ap (λ (s : FlexState). record { flex = s; source = f'.source; asked = rows }) same ∙ ap (λ (x : PageCursor). record { flex = f.state; source = x; asked = rows }) stays
-
-module _ (f f' : FlexContents PageCursor) (same : f'.state ≡ f.state) (kept : f'.memory.bytes ≡ f.memory.bytes) where
-  pub not_allocated_stays : (size align : ℕ) → FlexSteps 64 64 terms_of MayOwe PageLeads f f' (FlexAllocates 64 64 (terms_of f.source) f.state size align None)
-      → StaysRefused f f'
-  not_allocated_stays size align steps =
-      let (notes, step, led, outside, stands) = flex_opened f f' (FlexAllocates 64 64 (terms_of f.source) f.state size align None) steps in
-      record {
-        stands = stands;
-        state = same;
-        source = refused_notes f.source f'.source _ _ (subst (λ ns. LeadsBy PageLeads f.source ns f'.source) step.extends.asked led);
-        bytes = kept;
-      }
-
-  pub not_moved : (addr keep : ℕ) (wanted : Layout)
-      → FlexSteps 64 64 terms_of MayOwe PageLeads f f' (FlexAllocates 64 64 (terms_of f.source) f.state wanted.size wanted.align None) → (rows : List Row)
-      → HeapMovesAway (heap_of f rows) addr keep wanted (Err NoRoom) (heap_of f' rows)
-  not_moved addr keep wanted steps rows =
-      let (notes, step, led, outside, stands) = flex_opened f f' (FlexAllocates 64 64 (terms_of f.source) f.state wanted.size wanted.align None) steps in
-      let stays = refused_notes f.source f'.source _ _ (subst (λ ns. LeadsBy PageLeads f.source ns f'.source) step.extends.asked led) in
-      let here = subst (λ (x : FlexState). FlexAllocates 64 64 (terms_of f.source) f.state wanted.size wanted.align None notes x) same step in
-      ((notes, here, subst (λ (y : PageCursor). LeadsBy PageLeads f.source notes y) stays led), same_heap f f' rows same stays)
-
-  pub not_reallocated_stays : (addr size : ℕ) → FlexSteps 64 64 terms_of MayOwe PageLeads f f' (FlexReallocates 64 64 (terms_of f.source) f.state addr size None)
-      → StaysRefused f f'
-  not_reallocated_stays addr size steps =
-      let (notes, step, led, outside, stands) = flex_opened f f' (FlexReallocates 64 64 (terms_of f.source) f.state addr size None) steps in
-      record {
-        stands = stands;
-        state = same;
-        source = refused_notes f.source f'.source _ _ (subst (λ ns. LeadsBy PageLeads f.source ns f'.source) step.asks.extends.asked led);
-        bytes = kept;
-      }
-
-  pub not_reallocated : (addr : ℕ) (wanted : Layout) → FlexSteps 64 64 terms_of MayOwe PageLeads f f' (FlexReallocates 64 64 (terms_of f.source) f.state addr wanted.size None)
-      → (rows : List Row)
-      → ResizesTo (heap_of f rows) addr wanted (Err NoRoom) (heap_of f' rows)
-  not_reallocated addr wanted steps rows =
-      let (notes, step, led, outside, stands) = flex_opened f f' (FlexReallocates 64 64 (terms_of f.source) f.state addr wanted.size None) steps in
-      let stays = refused_notes f.source f'.source _ _ (subst (λ ns. LeadsBy PageLeads f.source ns f'.source) step.asks.extends.asked led) in
-      let here = subst (λ (x : FlexState). FlexReallocates 64 64 (terms_of f.source) f.state addr wanted.size None notes x) same step in
-      ((notes, here, subst (λ (y : PageCursor). LeadsBy PageLeads f.source notes y) stays led), same_heap f f' rows same stays)
+  pub moved_locked : (rows' : List Row) → rows' ≡ put (to, wanted) (without_row addr rows) → IsLocked f' rows'
+  moved_locked rows' now = subst (λ l. IsLocked f' l) (sym now) (record {
+    flex = is.stands;
+    sorted = put-sorted (to, wanted) (without_row addr rows) (without_row-sorted addr rows v.sorted) (absent-row_at (at to) (without_row addr rows) moved_row);
+    lists = Lists-moved rows f.state.machine f'.state.machine v.lists addr (to, wanted) (record { live = is.live; sized = is.sized; few = is.few }) is.left is.aligns is.bytes;
+  })
 
 -- ---- the allocator's own reallocation
 

@@ -1,23 +1,23 @@
 -- How a heap goes on from step to step.
-use Rattle.std.proofs.Common.{◌≡◌, ◌≢◌, ℕ, ◌≤◌, length, List, Some, None, IsSome, Ok, Err, refl, sym, ◌∙◌, ap}
-use Rattle.std.proofs.Common.{subst}
+use Rattle.std.proofs.Common.{◌≡◌, ◌≢◌, ℕ, ◌≤◌, length, List, Option, Some, None, IsSome, Ok, refl, sym, subst}
 use Rattle.std.specs.declared.num.NonZeroUsize.{NonZeroUsize}
 use Rattle.rlsf_base.specs.Addr.{at}
 use Rattle.rlsf_base.specs.declared.memory.layout.Layout.{Layout}
 use Rattle.rlsf_flex.specs.StandsFor.{FlexContents, FlexSteps, StepsAlone}
 use Rattle.rlsf_flex.proofs.InnerAllocator.{alone_opened, flex_opened}
 use Rattle.rlsf_global.specs.Locked.{IsLocked, LockedContents, LockedStands, flex_of, heap_of}
+use Rattle.rlsf_global.specs.Steps.Moves.{StaysRefused}
 use Rattle.rlsf_model_global.specs.Pages.{MayOwe}
 use Rattle.rlsf_model_global.proofs.PageAnswers.{refused_notes}
 use Rattle.rlsf_model_global.proofs.Maps.{IsServed, Lists-filled, Lists-put, Lists-without_row, agrees-none}
 use Rattle.rlsf_model_global.proofs.Rows.{absent-row_at, put-sorted, without_row-sorted}
 use Rattle.rlsf_model.specs.Callers.{align_at, bytes_at}
 use Rattle.rlsf_model.specs.FlexAllocate.{FlexAllocates}
-use Rattle.rlsf_model.specs.FlexState.{FlexState, with_machine}
-use Rattle.rlsf_model.specs.Note.{LeadsBy}
+use Rattle.rlsf_model.specs.FlexState.{FlexState}
+use Rattle.rlsf_model.specs.Growth.{Extends, refused}
+use Rattle.rlsf_model.specs.Note.{LeadsBy, Note}
 use Rattle.rlsf_model.specs.Release.{Deallocates}
 use Rattle.rlsf_model.specs.Run.{Fills}
-use Rattle.rlsf_model_global.specs.declared.error.GlobalError.TheVariants.{NoRoom}
 use Rattle.rlsf_model_global.specs.Cursor.{PageCursor, PageLeads, terms_of}
 use Rattle.rlsf_model_global.specs.Heap.{Agrees, Lists, with_state}
 use Rattle.rlsf_model_global.specs.Rows.{Row, put, row_at, without_row}
@@ -27,6 +27,30 @@ use Rattle.rlsf_model_global.specs.Steps.{HeapAllocates, Releases}
 pub locked_stands : (v : LockedContents) → IsLocked (flex_of v) v.heap.asked → LockedStands v
 unfolding LockedStands
 locked_stands v is = is
+
+-- ---- nothing changed
+
+-- heaps with equal states and equal cursors are equal
+pub same_heap : (f f' : FlexContents PageCursor) (rows : List Row) → f'.state ≡ f.state → f'.source ≡ f.source → heap_of f' rows ≡ heap_of f rows
+same_heap f f' rows same stays i = record { flex = same i; source = stays i; asked = rows }
+
+-- where no memory came, the cursor stays too
+pub refusal_stays : (f f' : FlexContents PageCursor) (made : List Note → FlexState → Type 0) → FlexSteps 64 64 terms_of MayOwe PageLeads f f' made
+    → ((notes : List Note) → made notes f'.state → (wanted : Option ℕ) × Extends 64 (terms_of f.source) f.state wanted refused notes f'.state)
+    → f'.state ≡ f.state → f'.memory.bytes ≡ f.memory.bytes → StaysRefused f f'
+refusal_stays f f' made steps asks same kept =
+    let (notes, step, led, outside, stands) = flex_opened f f' made steps in
+    let source = refused_notes f.source f'.source _ _ (subst (λ ns. LeadsBy PageLeads f.source ns f'.source) (asks notes step).1.asked led) in
+    record { stands = stands; state = same; source = source; bytes = kept }
+
+-- and the step is one from a heap to itself
+pub refusal_made : (f f' : FlexContents PageCursor) (made : List Note → FlexState → Type 0) → FlexSteps 64 64 terms_of MayOwe PageLeads f f' made → StaysRefused f f'
+    → (rows : List Row) → ((notes : List Note) × made notes f.state × LeadsBy PageLeads f.source notes f.source) × (heap_of f' rows ≡ heap_of f rows)
+refusal_made f f' made steps stays rows =
+    let (notes, step, led, outside, stands) = flex_opened f f' made steps in
+    ((notes, subst (made notes) stays.state step, subst (LeadsBy PageLeads f.source notes) stays.source led), same_heap f f' rows stays.state stays.source)
+
+-- ---- what changed
 
 module _ (f : FlexContents PageCursor) (rows : List Row) (v : IsLocked f rows) where
   -- an address with an entry is live, and its payload serves the entry's layout
@@ -62,29 +86,9 @@ module _ (f : FlexContents PageCursor) (rows : List Row) (v : IsLocked f rows) w
           lists = Lists-put rows f.state.machine f'.state.machine v.lists (addr, layout) is aligns bytes;
         })
 
-  -- it had none, and no memory came
-  module _ (f' : FlexContents PageCursor) (layout : Layout)
-      (steps : FlexSteps 64 64 terms_of MayOwe PageLeads f f' (FlexAllocates 64 64 (terms_of f.source) f.state layout.size layout.align None)) (same : f'.state ≡ f.state) where
-    pub cursor_stays : f'.source ≡ f.source
-    cursor_stays =
-        let (notes, step, led, outside, stands) = flex_opened f f' (FlexAllocates 64 64 (terms_of f.source) f.state layout.size layout.align None) steps in
-        refused_notes f.source f'.source _ _ (subst (λ ns. LeadsBy PageLeads f.source ns f'.source) step.extends.asked led)
-
-    pub heap_stays : heap_of f' rows ≡ heap_of f rows
-    heap_stays =
-        ap (λ (s : FlexState). record { flex = s; source = f'.source; asked = rows }) same
-        ∙ ap (λ (x : PageCursor). record { flex = f.state; source = x; asked = rows }) cursor_stays
-
-    pub not_allocated : HeapAllocates (heap_of f rows) layout (Err NoRoom) (heap_of f' rows)
-    not_allocated =
-        let (notes, step, led, outside, stands) = flex_opened f f' (FlexAllocates 64 64 (terms_of f.source) f.state layout.size layout.align None) steps in
-        let here = subst (λ (x : FlexState). FlexAllocates 64 64 (terms_of f.source) f.state layout.size layout.align None notes x) same step in
-        ((notes, here, subst (λ (y : PageCursor). LeadsBy PageLeads f.source notes y) cursor_stays led), heap_stays)
-
-    pub stays_locked : IsLocked f' rows
-    stays_locked =
-        let (notes, step, led, outside, stands) = flex_opened f f' (FlexAllocates 64 64 (terms_of f.source) f.state layout.size layout.align None) steps in
-        record { flex = stands; sorted = v.sorted; lists = subst (λ (s : FlexState). Lists rows s.machine) (sym same) v.lists }
+  -- the allocator had none, and no memory came
+  pub refused_locked : (f' : FlexContents PageCursor) → StaysRefused f f' → IsLocked f' rows
+  refused_locked f' is = record { flex = is.stands; sorted = v.sorted; lists = subst (λ (s : FlexState). Lists rows s.machine) (sym is.state) v.lists }
 
   -- a payload was deallocated
   module _ (f' : FlexContents PageCursor) (addr : ℕ) (steps : StepsAlone 64 64 terms_of MayOwe f f' (Deallocates f.state.machine addr)) (stays : f'.source ≡ f.source)
@@ -94,9 +98,7 @@ module _ (f : FlexContents PageCursor) (rows : List Row) (v : IsLocked f rows) w
         let (step, after, stands, spare) = alone_opened f f' (Deallocates f.state.machine addr) steps in (
           f'.state.machine,
           step,
-          ap (λ (s : FlexState). record { flex = s; source = f'.source; asked = rows' }) after
-              ∙ ap (λ (x : PageCursor). record { flex = with_machine f.state f'.state.machine; source = x; asked = rows' }) stays
-              ∙ ap (λ l. record { flex = with_machine f.state f'.state.machine; source = f.source; asked = l }) there,
+          λ i. record { flex = after i; source = stays i; asked = there i },
         )
 
     pub released_locked : align_at f'.state.machine addr ≡ None → ((a : ℕ) → a ≢ addr → align_at f'.state.machine a ≡ align_at f.state.machine a)
@@ -116,8 +118,7 @@ module _ (f : FlexContents PageCursor) (rows : List Row) (v : IsLocked f rows) w
     filled =
         let (step, after, stands, spare) = alone_opened f f' (Fills f.state.machine addr bytes) steps in (
           step,
-          ap (λ (s : FlexState). record { flex = s; source = f'.source; asked = rows }) after
-              ∙ ap (λ (x : PageCursor). record { flex = with_machine f.state f'.state.machine; source = x; asked = rows }) stays,
+          λ i. record { flex = after i; source = stays i; asked = rows },
         )
 
     pub filled_locked : align_at f'.state.machine ≡ align_at f.state.machine → length (bytes_at f'.state.machine addr) ≡ length (bytes_at f.state.machine addr)

@@ -1,5 +1,5 @@
 -- By what a step of the heap can be refused.
-use Rattle.std.proofs.Common.{◌≡◌, ℕ, inl, inr, Bool, true, false, List, [], ◌∷◌, Option, Some, None, Result, Ok, Err, MatchBool, length, OnErr, refl, subst, sym}
+use Rattle.std.proofs.Common.{arith, ◌≡◌, ℕ, inl, inr, Bool, true, false, List, [], ◌∷◌, Option, Some, None, Result, Ok, Err, OnErr, refl, subst, sym}
 use Rattle.rlsf_base.specs.declared.memory.layout.Layout.{Layout}
 use Rattle.rlsf_global.specs.Refusals.{RefusesOnlyBy}
 use Rattle.rlsf_model_global.specs.declared.error.GlobalError.{GlobalError}
@@ -7,7 +7,7 @@ use Rattle.rlsf_model_global.specs.declared.error.GlobalError.TheVariants.{Journ
 use Rattle.rlsf_model_global.specs.Heap.{Heap}
 use Rattle.rlsf_model_global.specs.Moves.{HeapMovesAway, ReallocatesAsAt, ReallocatesAt, ReallocatesThereAt, ReallocatesTo, HeapResizesThere, ResizesTo}
 use Rattle.rlsf_model_global.specs.Rows.{Row}
-use Rattle.rlsf_model_global.specs.Steps.{DeallocatesAsAt, DeallocatesAt, Done, HeapAllocates, Placed, ReadsAt, UsableAt, WritesAt, is_same, are_usable}
+use Rattle.rlsf_model_global.specs.Steps.{DeallocatesAsAt, DeallocatesAt, Done, HeapAllocates, Placed, ReadsAt, UsableAt, WritesAt}
 use Rattle.rlsf_blocks.proofs.Refused.{err_always}
 
 -- a known answer is refused by what it is
@@ -27,52 +27,29 @@ pub deallocates_refuses : (h g : Heap) (addr : ℕ) (row : Option Row) (r : Done
 deallocates_refuses h g addr None r step = same (UnknownAddress ∷ []) r _ step.0 (inl refl)
 deallocates_refuses h g addr (Some row) r step = same (UnknownAddress ∷ []) r _ step.0 tt
 
--- what both answers of a test show
-pub either : {A B X : Type 0} (b : Bool) → MatchBool b A B → (A → X) → (B → X) → X
-either true m f k = f m
-either false m f k = k m
-
 pub deallocates_as_refuses : (h g : Heap) (addr : ℕ) (layout : Layout) (row : Option Row) (r : Done) → DeallocatesAsAt h addr layout row r g
     → RefusesOnlyBy (UnknownAddress ∷ WrongLayout ∷ []) r
-deallocates_as_refuses h g addr layout None r step = same (UnknownAddress ∷ WrongLayout ∷ []) r _ step.0 (inl refl)
-deallocates_as_refuses h g addr layout (Some row) r step = either (is_same row.1 layout) step
-    (λ m. same (UnknownAddress ∷ WrongLayout ∷ []) r _ m.0 tt)
-    (λ m. same (UnknownAddress ∷ WrongLayout ∷ []) r _ m.0 (inr (inl refl)))
+deallocates_as_refuses h g addr layout row r step = grind arith
 
 pub reads_refuses : (h : Heap) (addr offset : ℕ) (lent : List ℕ) (row : Option Row) (r : Done) (left : List ℕ) → ReadsAt h addr offset lent row r left
     → RefusesOnlyBy (UnknownAddress ∷ OutOfRange ∷ []) r
-reads_refuses h addr offset lent None r left step = same (UnknownAddress ∷ OutOfRange ∷ []) r _ step.0 (inl refl)
-reads_refuses h addr offset lent (Some row) r left step = either (are_usable h addr offset (length lent)) step
-    (λ m. same (UnknownAddress ∷ OutOfRange ∷ []) r _ m.0 tt)
-    (λ m. same (UnknownAddress ∷ OutOfRange ∷ []) r _ m.0 (inr (inl refl)))
+reads_refuses h addr offset lent row r left step = grind arith
 
 -- a refused read leaves what was lent
 pub refused_read_leaves : (h : Heap) (addr offset : ℕ) (lent : List ℕ) (row : Option Row) (r : Done) (left : List ℕ) → ReadsAt h addr offset lent row r left
     → OnErr r (left ≡ lent)
-refused_read_leaves h addr offset lent None r left step = err_always r step.1
-refused_read_leaves h addr offset lent (Some row) r left step = either (are_usable h addr offset (length lent)) step
-    (λ m. subst (λ x. OnErr x (left ≡ lent)) (sym m.0) tt)
-    (λ m. err_always r m.1)
+refused_read_leaves h addr offset lent row r left step = grind (arith, err_always)
 
 pub writes_refuses : (h g : Heap) (addr offset : ℕ) (bytes : List ℕ) (row : Option Row) (r : Done) → WritesAt h addr offset bytes row r g
     → RefusesOnlyBy (UnknownAddress ∷ OutOfRange ∷ []) r
-writes_refuses h g addr offset bytes None r step = same (UnknownAddress ∷ OutOfRange ∷ []) r _ step.0 (inl refl)
-writes_refuses h g addr offset bytes (Some row) r step = either (are_usable h addr offset (length bytes)) step
-    (λ m. same (UnknownAddress ∷ OutOfRange ∷ []) r _ m.0 tt)
-    (λ m. same (UnknownAddress ∷ OutOfRange ∷ []) r _ m.0 (inr (inl refl)))
+writes_refuses h g addr offset bytes row r step = grind arith
 
 pub usable_refuses : (h : Heap) (addr : ℕ) (row : Option Row) (r : Result ℕ GlobalError) → UsableAt h addr row r → RefusesOnlyBy (UnknownAddress ∷ []) r
 usable_refuses h addr None r step = same (UnknownAddress ∷ []) r _ step (inl refl)
 usable_refuses h addr (Some row) r step = same (UnknownAddress ∷ []) r _ step tt
 
 moves_refuses : (h g : Heap) (addr keep : ℕ) (wanted : Layout) (r : Placed) → HeapMovesAway h addr keep wanted r g → RefusesOnlyBy (UnknownAddress ∷ NoRoom ∷ []) r
-moves_refuses h g addr keep wanted (Ok to) step = tt
-moves_refuses h g addr keep wanted (Err NoRoom) step = inr (inl refl)
-moves_refuses h g addr keep wanted (Err UnknownAddress) step = absurd step
-moves_refuses h g addr keep wanted (Err WrongLayout) step = absurd step
-moves_refuses h g addr keep wanted (Err OutOfRange) step = absurd step
-moves_refuses h g addr keep wanted (Err JournalMemory) step = absurd step
-moves_refuses h g addr keep wanted (Err TableMemory) step = absurd step
+moves_refuses h g addr keep wanted r step = grind arith
 
 pub reallocates_refuses : (h g : Heap) (addr : ℕ) (wanted : Layout) (row : Option Row) (r : Placed) → ReallocatesAt h addr wanted row r g
     → RefusesOnlyBy (UnknownAddress ∷ NoRoom ∷ []) r
@@ -81,19 +58,10 @@ reallocates_refuses h g addr wanted (Some row) r step = moves_refuses h g addr _
 
 -- with one more reason
 more : (r : Placed) → RefusesOnlyBy (UnknownAddress ∷ NoRoom ∷ []) r → RefusesOnlyBy (UnknownAddress ∷ WrongLayout ∷ NoRoom ∷ []) r
-more (Ok to) by = tt
-more (Err e) (inl is) = inl is
-more (Err e) (inr (inl is)) = inr (inr (inl is))
-more (Err e) (inr (inr none)) = absurd none
+more r by = grind arith
 
 resizes_refuses : (h g : Heap) (addr : ℕ) (wanted : Layout) (r : Placed) → ResizesTo h addr wanted r g → RefusesOnlyBy (UnknownAddress ∷ WrongLayout ∷ NoRoom ∷ []) r
-resizes_refuses h g addr wanted (Ok to) step = tt
-resizes_refuses h g addr wanted (Err NoRoom) step = inr (inr (inl refl))
-resizes_refuses h g addr wanted (Err UnknownAddress) step = absurd step
-resizes_refuses h g addr wanted (Err WrongLayout) step = absurd step
-resizes_refuses h g addr wanted (Err OutOfRange) step = absurd step
-resizes_refuses h g addr wanted (Err JournalMemory) step = absurd step
-resizes_refuses h g addr wanted (Err TableMemory) step = absurd step
+resizes_refuses h g addr wanted r step = grind arith
 
 to_refuses : (enabled : Bool) (h g : Heap) (addr : ℕ) (old wanted : Layout) (r : Placed) → ReallocatesTo enabled h addr old wanted r g
     → RefusesOnlyBy (UnknownAddress ∷ WrongLayout ∷ NoRoom ∷ []) r
@@ -103,23 +71,11 @@ to_refuses false h g addr old wanted r step = more r (moves_refuses h g addr _ w
 pub reallocates_as_refuses : (enabled : Bool) (h g : Heap) (addr : ℕ) (layout : Layout) (size : ℕ) (row : Option Row) (r : Placed)
     → ReallocatesAsAt enabled h addr layout size row r g
     → RefusesOnlyBy (UnknownAddress ∷ WrongLayout ∷ NoRoom ∷ []) r
-reallocates_as_refuses enabled h g addr layout size None r step = same (UnknownAddress ∷ WrongLayout ∷ NoRoom ∷ []) r _ step.0 (inl refl)
-reallocates_as_refuses enabled h g addr layout size (Some row) r step = either (is_same row.1 layout) step
-    (λ w. to_refuses enabled h g addr layout w.layout r w.made)
-    (λ m. same (UnknownAddress ∷ WrongLayout ∷ NoRoom ∷ []) r _ m.0 (inr (inl refl)))
+reallocates_as_refuses enabled h g addr layout size row r step = grind (arith, to_refuses)
 
 there_refuses : (h g : Heap) (addr : ℕ) (wanted : Layout) (r : Placed) → HeapResizesThere h addr wanted r g → RefusesOnlyBy (UnknownAddress ∷ WrongLayout ∷ NoRoom ∷ []) r
-there_refuses h g addr wanted (Ok to) step = tt
-there_refuses h g addr wanted (Err NoRoom) step = inr (inr (inl refl))
-there_refuses h g addr wanted (Err UnknownAddress) step = absurd step
-there_refuses h g addr wanted (Err WrongLayout) step = absurd step
-there_refuses h g addr wanted (Err OutOfRange) step = absurd step
-there_refuses h g addr wanted (Err JournalMemory) step = absurd step
-there_refuses h g addr wanted (Err TableMemory) step = absurd step
+there_refuses h g addr wanted r step = grind arith
 
 pub reallocates_there_refuses : (h g : Heap) (addr : ℕ) (layout : Layout) (size : ℕ) (row : Option Row) (r : Placed) → ReallocatesThereAt h addr layout size row r g
     → RefusesOnlyBy (UnknownAddress ∷ WrongLayout ∷ NoRoom ∷ []) r
-reallocates_there_refuses h g addr layout size None r step = same (UnknownAddress ∷ WrongLayout ∷ NoRoom ∷ []) r _ step.0 (inl refl)
-reallocates_there_refuses h g addr layout size (Some row) r step = either (is_same row.1 layout) step
-    (λ w. there_refuses h g addr w.layout r w.made)
-    (λ m. same (UnknownAddress ∷ WrongLayout ∷ NoRoom ∷ []) r _ m.0 (inr (inl refl)))
+reallocates_there_refuses h g addr layout size row r step = grind (arith, there_refuses)

@@ -1,5 +1,5 @@
 -- A payload is resized in place, and its entry gets another layout.
-use Rattle.std.proofs.Common.{◌≡◌, ◌≢◌, ℕ, true, false, List, Option, Some, None, Ok, Err, refl, sym, ◌∙◌, ap, subst}
+use Rattle.std.proofs.Common.{◌≡◌, ◌≢◌, ℕ, List, Some, None, Ok, Err, sym, ◌∙◌, ap, subst}
 use Rattle.std.specs.declared.num.NonZeroUsize.{NonZeroUsize}
 use Rattle.rlsf_base.specs.Addr.{at}
 use Rattle.rlsf_base.specs.declared.memory.layout.Layout.{Layout}
@@ -7,36 +7,17 @@ use Rattle.rlsf_flex.specs.StandsFor.{FlexContents, StepsAlone}
 use Rattle.rlsf_flex.proofs.InnerAllocator.{alone_opened}
 use Rattle.rlsf_global.specs.Locked.{IsLocked, heap_of}
 use Rattle.rlsf_model_global.specs.Pages.{MayOwe}
-use Rattle.rlsf_global.proofs.Checks.{when_false, when_true}
+use Rattle.rlsf_global.proofs.Placements.{same_heap}
 use Rattle.rlsf_model_global.proofs.Maps.{IsServed, Lists-moved, row_at-without_here}
 use Rattle.rlsf_model_global.proofs.Rows.{absent-row_at, put-sorted, without_row-sorted}
 use Rattle.rlsf_model.specs.Callers.{align_at, bytes_at}
-use Rattle.rlsf_model.specs.FlexState.{FlexState, with_machine}
+use Rattle.rlsf_model.specs.FlexState.{FlexState}
 use Rattle.rlsf_model.specs.NoMove.{ReallocatesWithoutMove}
-use Rattle.rlsf_model_global.specs.declared.error.GlobalError.TheVariants.{NoRoom, WrongLayout}
+use Rattle.rlsf_model_global.specs.declared.error.GlobalError.TheVariants.{NoRoom}
 use Rattle.rlsf_model_global.specs.Cursor.{PageCursor, terms_of}
-use Rattle.rlsf_model_global.specs.Heap.{Heap, Lists}
-use Rattle.rlsf_model_global.specs.Moves.{ReallocatesThereAt, HeapResizesThere, Wanted}
+use Rattle.rlsf_model_global.specs.Heap.{Lists}
+use Rattle.rlsf_model_global.specs.Moves.{HeapResizesThere}
 use Rattle.rlsf_model_global.specs.Rows.{Row, put, row_at, without_row}
-use Rattle.rlsf_model_global.specs.Steps.{Placed, is_same}
-
--- two answers are equal
-abbrev pub IsPlaced : Placed → Placed → Type 0
-IsPlaced a b = a ≡ b
-
-module _ (h : Heap) (addr : ℕ) (layout : Layout) (n : ℕ) (row : Row) where
-  pub resizes_in : (wanted : Layout) (result : Placed) (g : Heap) → true ≡ is_same row.1 layout → wanted.size ≡ n → wanted.align ≡ layout.align
-      → HeapResizesThere h addr wanted result g
-      → ReallocatesThereAt h addr layout n (Some row) result g
-  resizes_in wanted result g e size align step =
-      when_true (Wanted n layout.align (λ wanted. HeapResizesThere h addr wanted result g)) ((result ≡ Err WrongLayout) × (g ≡ h)) (is_same row.1 layout) e
-      (record { layout = wanted; size = size; align = align; made = step })
-
-  pub resizes_out : false ≡ is_same row.1 layout → {o : Option Row} → o ≡ Some row → ReallocatesThereAt h addr layout n o (Err WrongLayout) h
-  resizes_out e found =
-      subst (λ o. ReallocatesThereAt h addr layout n o (Err WrongLayout) h) (sym found)
-      (when_false (Wanted n layout.align (λ wanted. HeapResizesThere h addr wanted (Err WrongLayout) h)) (IsPlaced (Err WrongLayout) (Err WrongLayout) × (h ≡ h))
-      (is_same row.1 layout) e (refl, refl))
 
 -- the new entry is that of the address
 pub row_there : (rows after : List Row) (addr : ℕ) (to : NonZeroUsize) (wanted : Layout) → at to ≡ addr → after ≡ put (to, wanted) (without_row (at to) rows)
@@ -56,9 +37,7 @@ module _ (f : FlexContents PageCursor) (rows : List Row) (v : IsLocked f rows) (
         let (step, after, stands, spare) = alone_opened f f' (ReallocatesWithoutMove f.state.machine addr wanted.size (Some (at to))) steps in (
           f'.state.machine,
           step,
-          ap (λ (s : FlexState). record { flex = s; source = f'.source; asked = rows' }) after
-              ∙ ap (λ (x : PageCursor). record { flex = with_machine f.state f'.state.machine; source = x; asked = rows' }) stays
-              ∙ ap (λ l. record { flex = with_machine f.state f'.state.machine; source = f.source; asked = l }) now,
+          λ i. record { flex = after i; source = stays i; asked = now i },
         )
 
     pub resized_locked : IsServed f'.state.machine addr wanted → align_at f'.state.machine ≡ align_at f.state.machine
@@ -79,14 +58,10 @@ module _ (f : FlexContents PageCursor) (rows : List Row) (v : IsLocked f rows) (
 
   -- the bytes there don't suffice
   module _ (steps : StepsAlone 64 64 terms_of MayOwe f f' (ReallocatesWithoutMove f.state.machine addr wanted.size None)) (same : f'.state ≡ f.state) where
-    pub heap_as_it_was : heap_of f' rows ≡ heap_of f rows
-    heap_as_it_was =
-        ap (λ (s : FlexState). record { flex = s; source = f'.source; asked = rows }) same ∙ ap (λ (x : PageCursor). record { flex = f.state; source = x; asked = rows }) stays
-
     pub not_resized : HeapResizesThere (heap_of f rows) addr wanted (Err NoRoom) (heap_of f' rows)
     not_resized =
         let (step, after, stands, spare) = alone_opened f f' (ReallocatesWithoutMove f.state.machine addr wanted.size None) steps in
-        (subst (λ (s : FlexState). ReallocatesWithoutMove f.state.machine addr wanted.size None s.machine) same step, heap_as_it_was)
+        (subst (λ (s : FlexState). ReallocatesWithoutMove f.state.machine addr wanted.size None s.machine) same step, same_heap f f' rows same stays)
 
     pub not_resized_locked : IsLocked f' rows
     not_resized_locked =

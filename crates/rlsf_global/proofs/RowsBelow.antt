@@ -56,11 +56,7 @@ below-all b (r ∷ rows) under = by (nat_lt (key r) b) (leb_tells (suc (key r)) 
 pub length-below : (b : ℕ) (rows : List Row) → length (below b rows) ≤ length rows
 unfolding below
 length-below b [] = omega arith
-length-below b (r ∷ rows) = by (nat_lt (key r) b) (length-below b rows)
-  where
-    by : (lt : Bool) → length (below b rows) ≤ length rows → length (if lt then r ∷ below b rows else below b rows) ≤ suc (length rows)
-    by true rest = omega (arith, rest)
-    by false rest = omega (arith, rest)
+length-below b (r ∷ rows) = grind (arith, length-below b rows)
 
 -- where no entry is between two bounds, the entries below the second are those below the first and the entry of the first
 below-next : (a b : ℕ) (rows : List Row) → IsSorted rows → a < b → ((r : Row) → IsIn r rows → key r < b → key r ≤ a)

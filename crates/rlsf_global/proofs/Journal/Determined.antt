@@ -24,12 +24,7 @@ use Rattle.rlsf_model_global.specs.Steps.{Done, Placed as Answer}
 -- ---- one entry
 
 same_call : (c d : Call) (r q : Reply) → c ≡ d → HasSameCall (step_by c r) (step_by d q)
-same_call c d r q same = subst (λ (x : Call). HasSameCall (step_by c r) (step_by x q)) same (by c)
-  where
-    by : (x : Call) → HasSameCall (step_by x r) (step_by x q)
-    by (Allocate layout) = refl
-    by (Deallocate addr) = refl
-    by (Reallocate addr layout) = (refl, refl)
+same_call c d r q same = grind arith
 
 -- the reply of a call that returns an address
 abbrev placed_reply : Answer → Reply
@@ -46,28 +41,13 @@ done_reply (Err error.JournalMemory) = JournalMemory
 done_reply (Err e) = UnknownAddress
 
 allocated_reply : (layout : Layout) (r : Reply) → IsReplyTo (Allocate layout) r → placed_reply (placed_by r) ≡ r
-allocated_reply layout (Placed addr) is = refl
-allocated_reply layout NoRoom is = refl
-allocated_reply layout TableMemory is = refl
-allocated_reply layout JournalMemory is = refl
-allocated_reply layout UnknownAddress is = refl
-allocated_reply layout Freed is = absurd is
+allocated_reply layout r is = grind arith
 
 reallocated_reply : (addr : NonZeroUsize) (layout : Layout) (r : Reply) → IsReplyTo (Reallocate addr layout) r → placed_reply (placed_by r) ≡ r
-reallocated_reply addr layout (Placed to) is = refl
-reallocated_reply addr layout NoRoom is = refl
-reallocated_reply addr layout TableMemory is = refl
-reallocated_reply addr layout JournalMemory is = refl
-reallocated_reply addr layout UnknownAddress is = refl
-reallocated_reply addr layout Freed is = absurd is
+reallocated_reply addr layout r is = grind arith
 
 deallocated_reply : (addr : NonZeroUsize) (r : Reply) → IsReplyTo (Deallocate addr) r → done_reply (done_by r) ≡ r
-deallocated_reply addr Freed is = refl
-deallocated_reply addr UnknownAddress is = refl
-deallocated_reply addr JournalMemory is = refl
-deallocated_reply addr (Placed to) is = absurd is
-deallocated_reply addr NoRoom is = absurd is
-deallocated_reply addr TableMemory is = absurd is
+deallocated_reply addr r is = grind arith
 
 same_reply : (c d : Call) (r q : Reply) → c ≡ d → IsReplyTo c r → IsReplyTo d q → IsSameAnswer (step_by c r) (step_by d q) → r ≡ q
 same_reply c d r q same fits fits' = subst (λ (x : Call). IsReplyTo x q → IsSameAnswer (step_by c r) (step_by x q) → r ≡ q) same (by c fits) fits'

@@ -15,9 +15,8 @@ use Rattle.rlsf_global.specs.declared.entry.Reply.TheVariants.{Placed, Freed, No
 use Rattle.rlsf_global.specs.Journal.Entries.{IsReplyTo, entries_of, most_live}
 use Rattle.rlsf_global.specs.Journal.Replay.{BookContents, BookStands, LeadsOrRefused, IsBook, IsReplay, IsRun, CallLeads, beginning_of, step_by, step_of}
 use Rattle.rlsf_global.proofs.CodedRows.{length-put_most, length-without_less}
-use Rattle.rlsf_global.proofs.Refusals.{either}
 use Rattle.rlsf_model.specs.FlexState.{FlexState}
-use Rattle.rlsf_model.specs.Note.{LeadsBy, Note, alloc, dealloc, grow}
+use Rattle.rlsf_model.specs.Note.{LeadsBy, Note}
 use Rattle.rlsf_model_global.proofs.Journals.{replay_begins, replay_goes_on}
 use Rattle.rlsf_model_global.specs.declared.error.GlobalError.TheVariants as error
 use Rattle.rlsf_model_global.specs.Cursor.{PageCursor, PageLeads}
@@ -26,8 +25,8 @@ use Rattle.rlsf_model_global.specs.History.{IsHistory, LeadsTo, Step, write}
 use Rattle.rlsf_model_global.specs.Moves.{HeapMovesAway, ReallocatesAt}
 use Rattle.rlsf_model_global.specs.Replays as placement
 use Rattle.rlsf_model_global.specs.Replays.{journal_of}
-use Rattle.rlsf_model_global.specs.Rows.{Row, row_at, without_row}
-use Rattle.rlsf_model_global.specs.Steps.{DeallocatesAt, Done, HeapWrites, Placed as Answer, Takes, WritesAt, are_usable}
+use Rattle.rlsf_model_global.specs.Rows.{Row, row_at}
+use Rattle.rlsf_model_global.specs.Steps.{DeallocatesAt, Done, HeapWrites, Placed as Answer, Takes, WritesAt}
 
 -- ---- a step leaves the space
 
@@ -36,11 +35,7 @@ abbrev start : PageCursor → Heap
 start c = beginning c.space c.grows
 
 lead-start : (x y : PageCursor) (n : Note) → PageLeads x n y → start y ≡ start x
-lead-start x y (alloc size None) led = ap start led.1
-lead-start x y (alloc size (Some r)) led = ap start led.2
-lead-start x y (grow r len None) led = ap start led.1
-lead-start x y (grow r len (Some given)) led = ap start led.3
-lead-start x y (dealloc r) led = ap start led
+lead-start x y n led = grind arith
 
 leads-start : (ns : List Note) (x y : PageCursor) → LeadsBy PageLeads x ns y → start y ≡ start x
 leads-start [] x y led = ap start led
@@ -69,33 +64,16 @@ reallocates-start h g addr wanted (Some row) result moved = moves-start h g addr
 
 writes-start : (h g : Heap) (addr offset : ℕ) (bytes : List ℕ) (o : Option Row) (result : Done) → WritesAt h addr offset bytes o result g
     → beginning_of g ≡ beginning_of h
-writes-start h g addr offset bytes None result step = ap beginning_of step.1
-writes-start h g addr offset bytes (Some row) result step = either (are_usable h addr offset (length bytes)) step
-    (λ did. ap beginning_of did.1.2)
-    (λ refused. ap beginning_of refused.1)
+writes-start h g addr offset bytes o result step = grind arith
 
 -- ---- a step makes at most one payload more live, and that alone in an allocation
 
 deallocates-few : (h g : Heap) (addr : ℕ) (o : Option Row) (result : Done) → o ≡ row_at addr h.asked → DeallocatesAt h addr o result g → length g.asked ≤ length h.asked
-deallocates-few h g addr None result is (refused, same) = let e = ap (λ (x : Heap). length x.asked) same in omega (arith, e)
-deallocates-few h g addr (Some row) result is (done, (m, frees, after)) =
-    let e = ap (λ (x : Heap). length x.asked) after in
-    let less = length-without_less addr h.asked (subst IsSome is refl) in
-    omega (arith, e, less)
+deallocates-few h g addr o result is step = grind (arith, length-without_less)
 
 moves-few : (h g : Heap) (addr keep : ℕ) (wanted : Layout) (result : Answer) → IsSome (row_at addr h.asked) → HeapMovesAway h addr keep wanted result g
     → length g.asked ≤ length h.asked
-moves-few h g addr keep wanted (Ok to) some (moved, rows) =
-    let e = ap length rows in
-    let less = length-without_less addr h.asked some in
-    let most = length-put_most (to, wanted) (without_row addr h.asked) in
-    omega (arith, e, less, most)
-moves-few h g addr keep wanted (Err error.NoRoom) some (takes, same) = let e = ap (λ (x : Heap). length x.asked) same in omega (arith, e)
-moves-few h g addr keep wanted (Err error.UnknownAddress) some moved = absurd moved
-moves-few h g addr keep wanted (Err error.WrongLayout) some moved = absurd moved
-moves-few h g addr keep wanted (Err error.TableMemory) some moved = absurd moved
-moves-few h g addr keep wanted (Err error.OutOfRange) some moved = absurd moved
-moves-few h g addr keep wanted (Err error.JournalMemory) some moved = absurd moved
+moves-few h g addr keep wanted result some moved = grind (arith, length-without_less, length-put_most)
 
 reallocates-few : (h g : Heap) (addr : ℕ) (wanted : Layout) (o : Option Row) (result : Answer) → o ≡ row_at addr h.asked → ReallocatesAt h addr wanted o result g
     → length g.asked ≤ length h.asked
@@ -103,15 +81,10 @@ reallocates-few h g addr wanted None result is (refused, same) = let e = ap (λ 
 reallocates-few h g addr wanted (Some row) result is moved = moves-few h g addr _ wanted result (subst IsSome is refl) moved
 
 writes-asked : (h g : Heap) (addr offset : ℕ) (bytes : List ℕ) (o : Option Row) (result : Done) → WritesAt h addr offset bytes o result g → g.asked ≡ h.asked
-writes-asked h g addr offset bytes None result step = ap (λ (x : Heap). x.asked) step.1
-writes-asked h g addr offset bytes (Some row) result step = either (are_usable h addr offset (length bytes)) step
-    (λ did. ap (λ (x : Heap). x.asked) did.1.2)
-    (λ refused. ap (λ (x : Heap). x.asked) refused.1)
+writes-asked h g addr offset bytes o result step = grind arith
 
 stays-few : (h g : Heap) (call : Call) → g ≡ h → length g.asked ≤ most_live call (length h.asked)
-stays-few h g (Allocate layout) same = let e = ap (λ (x : Heap). length x.asked) same in omega (arith, e)
-stays-few h g (Deallocate addr) same = let e = ap (λ (x : Heap). length x.asked) same in omega (arith, e)
-stays-few h g (Reallocate addr layout) same = let e = ap (λ (x : Heap). length x.asked) same in omega (arith, e)
+stays-few h g call same = grind arith
 
 -- an entry's step: the reply is one of the call's, a journal has it, it leaves the space, and few payloads are live
 record IsEntered (h : Heap) (call : Call) (reply : Reply) (g : Heap) : Type 0 where
@@ -211,12 +184,7 @@ unentered es h g run same = subst (λ l. IsReplay l g) (sym (append-nil es)) (su
 -- a call that isn't out of memory has one entry
 pub one_entry : (caller : ℕ) (call : Call) (reply : Reply) → reply ≢ TableMemory → reply ≢ JournalMemory
     → entries_of caller call reply ≡ record { caller = caller; call = call; reply = reply } ∷ []
-one_entry caller call TableMemory not_table not_journal = absurd (not_table refl)
-one_entry caller call JournalMemory not_table not_journal = absurd (not_journal refl)
-one_entry caller call (Placed to) not_table not_journal = refl
-one_entry caller call Freed not_table not_journal = refl
-one_entry caller call NoRoom not_table not_journal = refl
-one_entry caller call UnknownAddress not_table not_journal = refl
+one_entry caller call reply not_table not_journal = grind arith
 
 -- whatever a call returns, the journal with its entries replays to the heap after it
 pub recorded : (es : List Entry) (caller : ℕ) (call : Call) (reply : Reply) (h g : Heap) → IsReplay es h → LeadsOrRefused h call reply g

@@ -1,17 +1,19 @@
 use Rattle.std.proofs.Common.{◌+◌, None, arith, ap, ◌∙◌}
 use Rattle.rlsf_base.specs.Addr.{at}
 use Rattle.rlsf_global.proofs.KeptMemories.{kept_allocated, kept_moved}
-use Rattle.rlsf_global.proofs.MovedPayloads.{moved_away, moved_away_seen, not_allocated_stays, not_moved}
+use Rattle.rlsf_global.proofs.MovedPayloads.{moved_away, moved_away_seen}
+use Rattle.rlsf_global.proofs.Placements.{refusal_made, refusal_stays}
 use Rattle.rlsf_global.proofs.moves.move_away.Goals as goal
 
 pub returns-in_err-to : goal.returns-in_err-to
 returns-in_err-to g c =
     let did = c.in_err-to.ensures in
+    let stays = refusal_stays c.args.flex.now c.allocate.new.self _ did.step (λ notes is. (_, is.extends)) did.refused.same did.refused.bytes in
     rw c.from_residual.ensures (record {
       step = tt;
       moved = tt;
-      none = λ rows. not_moved c.args.flex.now c.allocate.new.self did.refused.same did.refused.bytes (at c.args.addr) c.args.keep c.args.wanted did.step rows;
-      refused = not_allocated_stays c.args.flex.now c.allocate.new.self did.refused.same did.refused.bytes c.args.wanted.size c.args.wanted.align did.step;
+      none = refusal_made c.args.flex.now c.allocate.new.self _ did.step stays;
+      refused = stays;
       touches = λ some.
           let first = did.touches some in
           omega (arith, first);

@@ -1,19 +1,17 @@
-use Rattle.std.proofs.Common.{rules, min, ap, true≢false, ◌∙◌, ◌≡◌, ◌≤◌, ◌+◌, Ok, Err, Some, None, IsSome, Option, refl, subst, sym}
+use Rattle.std.proofs.Common.{rules, min, ap, true≢false, ◌∙◌, ◌≡◌, ◌≤◌, ◌+◌, Some, None, IsSome, Option, refl, subst, sym}
 use Rattle.std.specs.declared.num.NonZeroUsize.{NonZeroUsize}
 use Rattle.rlsf_base.specs.Addr.{at, reply}
 use Rattle.rlsf_flex.specs.StandsFor.{FlexSteps}
 use Rattle.rlsf_tlsf.specs.Results.{IsReallocated}
-use Rattle.rlsf_global.specs.Locked.{heap_of}
+use Rattle.rlsf_global.specs.Steps.Moves.{StaysRefused}
 use Rattle.rlsf_model_global.specs.Pages.{MayOwe}
 use Rattle.rlsf_global.proofs.KeptMemories.{copied_at_most, kept_reallocated}
-use Rattle.rlsf_global.proofs.MovedPayloads.{not_reallocated, not_reallocated_stays, reallocated, reallocated_left, reallocated_stands}
+use Rattle.rlsf_global.proofs.MovedPayloads.{reallocated, reallocated_left, reallocated_stands}
+use Rattle.rlsf_global.proofs.Placements.{refusal_made, refusal_stays}
 use Rattle.rlsf_global.proofs.Results.{for_none, for_some, none_of, some_of}
 use Rattle.rlsf_model.specs.FlexReallocate.{FlexReallocates}
 use Rattle.rlsf_model.proofs.CallerWords.{align_at-some}
-use Rattle.rlsf_model_global.specs.declared.error.GlobalError.TheVariants.{NoRoom}
 use Rattle.rlsf_model_global.specs.Cursor.{PageLeads, terms_of}
-use Rattle.rlsf_model_global.specs.Moves.{ReallocatesTo}
-use Rattle.rlsf_model_global.specs.Rows.{put, without_row}
 use Rattle.rlsf_global.proofs.moves.resize.Given as given
 use Rattle.rlsf_global.proofs.moves.resize.Goals as goal
 use Rattle.rlsf_global.proofs.moves.resize.Goals.{After-move_away}
@@ -27,12 +25,16 @@ steps_with g c o is = subst
     (FlexReallocates 64 64 (terms_of c.args.flex.now.source) c.args.flex.now.state (at c.args.addr) c.args.wanted.size (reply o)))
     is c.reallocate.ensures.step
 
+-- where it is refused, nothing changed
+stays : (g : given.Over) (c : goal.After-reallocate g) → c.reallocate.result ≡ None → StaysRefused c.args.flex.now c.reallocate.new.self
+stays g c none =
+    let is = none_of c.reallocate.result none c.reallocate.ensures.refused in
+    refusal_stays c.args.flex.now c.reallocate.new.self _ (steps_with g c None none) (λ notes step. (_, step.asks.extends)) is.same is.bytes
+
 pub returns-then-ENABLE_REALLOCATION : goal.returns-then-ENABLE_REALLOCATION
 returns-then-ENABLE_REALLOCATION g c = record {
-  step = for_some c.reallocate.result (λ to some rows. subst
-      (λ enabled. ReallocatesTo enabled (heap_of c.args.flex.now rows) (at c.args.addr) c.args.layout c.args.wanted (Ok to)
-      (heap_of c.reallocate.new.self (put (to, c.args.wanted) (without_row (at c.args.addr) rows))))
-      c.if-ENABLE_REALLOCATION.ensures (reallocated c.args.flex.now c.reallocate.new.self (at c.args.addr) c.args.wanted to (steps_with g c (Some to) some) rows));
+  step = for_some c.reallocate.result (λ to some rows. rw (← c.if-ENABLE_REALLOCATION.ensures)
+      (reallocated c.args.flex.now c.reallocate.new.self (at c.args.addr) c.args.wanted to (steps_with g c (Some to) some) rows));
   moved = for_some c.reallocate.result (λ to some.
       let old = c.args.flex.now in
       let new = c.reallocate.new.self in
@@ -51,14 +53,9 @@ returns-then-ENABLE_REALLOCATION g c = record {
         aligns = is.aligns;
         bytes = is.bytes;
       });
-  none = for_none c.reallocate.result (λ none rows. subst
-      (λ enabled. ReallocatesTo enabled (heap_of c.args.flex.now rows) (at c.args.addr) c.args.layout c.args.wanted (Err NoRoom) (heap_of c.reallocate.new.self rows))
-      c.if-ENABLE_REALLOCATION.ensures
-      (not_reallocated c.args.flex.now c.reallocate.new.self (none_of c.reallocate.result none c.reallocate.ensures.refused).same
-      (none_of c.reallocate.result none c.reallocate.ensures.refused).bytes (at c.args.addr) c.args.wanted (steps_with g c None none) rows));
-  refused = for_none c.reallocate.result (λ none.
-      not_reallocated_stays c.args.flex.now c.reallocate.new.self (none_of c.reallocate.result none c.reallocate.ensures.refused).same
-      (none_of c.reallocate.result none c.reallocate.ensures.refused).bytes (at c.args.addr) c.args.wanted.size (steps_with g c None none));
+  none = for_none c.reallocate.result (λ none rows. rw (← c.if-ENABLE_REALLOCATION.ensures)
+      (refusal_made c.args.flex.now c.reallocate.new.self _ (steps_with g c None none) (stays g c none) rows));
+  refused = for_none c.reallocate.result (stays g c);
   touches = record {
     room = λ on room. c.reallocate.ensures.touches room;
     elsewhere = λ off some. absurd (true≢false (c.if-ENABLE_REALLOCATION.ensures ∙ off));
@@ -88,9 +85,7 @@ pub returns-else-ENABLE_REALLOCATION : goal.returns-else-ENABLE_REALLOCATION
 returns-else-ENABLE_REALLOCATION g c = record {
   step = search rules;
   moved = search rules;
-  none = for_none c.move_away.result (λ none rows. subst
-      (λ enabled. ReallocatesTo enabled (heap_of c.args.flex.now rows) (at c.args.addr) c.args.layout c.args.wanted (Err NoRoom) (heap_of c.move_away.new.flex rows))
-      c.if-ENABLE_REALLOCATION.ensures (none_of c.move_away.result none c.move_away.ensures.none rows));
+  none = for_none c.move_away.result (λ none rows. rw (← c.if-ENABLE_REALLOCATION.ensures) (none_of c.move_away.result none c.move_away.ensures.none rows));
   refused = search rules;
   touches = record {
     room = λ on room. absurd (true≢false (sym on ∙ sym c.if-ENABLE_REALLOCATION.ensures));

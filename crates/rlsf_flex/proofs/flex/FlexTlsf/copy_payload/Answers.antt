@@ -2,17 +2,13 @@ use Rattle.std.proofs.Common.{◌≤◌, IsSome, arith, length, refl, sym, subst
 use Rattle.rlsf_base.specs.Addr.{at}
 use Rattle.rlsf_model.specs.Callers.{align_at, bytes_at}
 use Rattle.rlsf_flex.specs.StandsFor.{FlexContents}
-use Rattle.rlsf_flex.proofs.Calls.{stands_alone, steps_alone}
+use Rattle.rlsf_flex.proofs.Calls.{IsFlexTlsf-alone, steps_alone}
 use Rattle.rlsf_flex.proofs.flex.FlexTlsf.copy_payload.Goals as goal
 
 pub invariant_of-self : goal.invariant_of-self
 invariant_of-self g c =
     let is = c.copy_payload.ensures in
-    record {
-      valid = c.self.invariant.valid;
-      stands = stands_alone c.self.invariant.stands c.copy_payload.new.self _ is.frame.place c.self.invariant.whole is.frame.chunks is.step;
-      whole = is.frame.place.3 c.self.invariant.whole;
-    }
+    IsFlexTlsf-alone c.self.invariant c.copy_payload.new.self _ is.frame.place is.frame.chunks is.step
 
 pub copy_payload-requires : goal.copy_payload-requires
 copy_payload-requires g c =

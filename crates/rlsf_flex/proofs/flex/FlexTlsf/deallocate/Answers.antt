@@ -1,7 +1,7 @@
 use Rattle.std.proofs.Common.{refl}
 use Rattle.rlsf_base.specs.Addr.{at}
 use Rattle.rlsf_base.specs.Space.{range_of}
-use Rattle.rlsf_flex.proofs.Calls.{stands_alone, steps_alone}
+use Rattle.rlsf_flex.proofs.Calls.{IsFlexTlsf-alone, steps_alone}
 use Rattle.rlsf_flex.proofs.Reserves.{sized_behind}
 use Rattle.rlsf_flex.proofs.InnerAllocator.{opened}
 use Rattle.rlsf_flex.proofs.flex.FlexTlsf.deallocate.Goals as goal
@@ -9,11 +9,7 @@ use Rattle.rlsf_flex.proofs.flex.FlexTlsf.deallocate.Goals as goal
 pub invariant_of-self : goal.invariant_of-self
 invariant_of-self g c =
     let is = c.deallocate.ensures in
-    record {
-      valid = c.self.invariant.valid;
-      stands = stands_alone c.self.invariant.stands c.deallocate.new.self _ is.frame.place c.self.invariant.whole is.frame.chunks is.step;
-      whole = is.frame.place.3 c.self.invariant.whole;
-    }
+    IsFlexTlsf-alone c.self.invariant c.deallocate.new.self _ is.frame.place is.frame.chunks is.step
 
 pub returns : goal.returns
 returns g c =

@@ -20,15 +20,7 @@ returns-then-supports_dealloc g c =
     rw (← c.self.view_is) (record {
       step = trimmed g.S.FlexSource.leads now new c.give_idle_back.result is.gone g.met.S.FlexSource.constant c.self.invariant.stands takes is.held;
       refused = λ none. ap flex_over (is.same none);
-      frame = record {
-        spare = is.gone.spare;
-        aligns = is.payloads.aligns;
-        bytes = is.payloads.bytes;
-        count = is.payloads.live;
-        place = is.gone.place;
-        grow = is.payloads.grow;
-        copied = is.payloads.copied;
-      };
+      frame = assumption (is.gone, is.payloads);
       touches = is.touches;
     })
 

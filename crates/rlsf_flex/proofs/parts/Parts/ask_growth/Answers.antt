@@ -193,16 +193,7 @@ returns g c = record {
       c.append_free_block_ptr-taken.ensures.frame.place));
   payloads =
       let did = c.append_free_block_ptr-taken.ensures in
-      let taken : HasSamePayloads g.row.SLLEN c.if-supports_dealloc.tlsf c.append_free_block_ptr-taken.new.self =
-      record {
-        aligns = did.frame.aligns;
-        bytes = did.frame.bytes;
-        count = did.frame.count;
-        bounds = did.bounds;
-        place = did.frame.place;
-        grow = did.frame.grow;
-        copied = did.frame.copied;
-      } in
+      let taken : HasSamePayloads g.row.SLLEN c.if-supports_dealloc.tlsf c.append_free_block_ptr-taken.new.self = assumption (did.frame, did.bounds) in
       elim c.if-supports_dealloc.branch [
         | then-supports_dealloc w ↦
             let wrote = w.write_footer.ensures in

@@ -118,16 +118,7 @@ returns g c = record {
   payloads =
       let did = c.insert_free_block_ptr.ensures in
       let wrote = c.write_footer_if.ensures in
-      let taken : HasSamePayloads g.row.SLLEN c.args.self.now.tlsf c.insert_free_block_ptr.new.self =
-      record {
-        aligns = did.frame.aligns;
-        bytes = did.frame.bytes;
-        count = did.frame.count;
-        bounds = did.bounds;
-        place = did.frame.place;
-        grow = did.frame.grow;
-        copied = did.frame.copied;
-      } in
+      let taken : HasSamePayloads g.row.SLLEN c.args.self.now.tlsf c.insert_free_block_ptr.new.self = assumption (did.frame, did.bounds) in
       HasSamePayloads-trans _ _ _ taken (HasSamePayloads-same c.insert_free_block_ptr.new.self c.write_footer_if.new.tlsf wrote.state wrote.footer.place wrote.grow wrote.copied);
   refused = tt;
 }

@@ -74,13 +74,7 @@ returns g c =
           (c.dealloc.ensures.owes [] (others v is) (subst (g.S.FlexSource.owes c.args.self.now.source) (newest_first v is) v.owed)) c.drop_newest.ensures;
       held = λ stayed. absurd (true≢false stayed);
       same = λ stayed. absurd (true≢false stayed);
-      payloads = record {
-        live = removed.frame.count;
-        aligns = removed.frame.aligns;
-        bytes = removed.frame.bytes;
-        grow = removed.frame.grow;
-        copied = removed.frame.copied;
-      };
+      payloads = assumption removed.frame;
       touches = removed.touches;
     }
 

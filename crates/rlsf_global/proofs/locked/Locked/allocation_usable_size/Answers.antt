@@ -1,7 +1,6 @@
 use Rattle.std.proofs.Common.{rules, Ok, lit<, length, ap, ◌∙◌, sym, refl}
 use Rattle.rlsf_base.specs.Addr.{at}
 use Rattle.rlsf_global.specs.Locked.{heap_of}
-use Rattle.rlsf_global.proofs.Checks.{usable_in}
 use Rattle.rlsf_global.proofs.Layouts.{content_at-is}
 use Rattle.rlsf_global.proofs.Lives.{found_row, known, no_row_found, unknown}
 use Rattle.rlsf_global.proofs.Placements.{live_here}
@@ -26,7 +25,7 @@ returns g c =
     let found = found_row c.self.inside.rows.rows (at c.args.addr) c.if-not-has_row.ensures in
     let h = heap_of c.self.inside.flex c.self.inside.rows.rows in
     rw (← c.self.view_is) (record {
-      step = usable_in h (at c.args.addr) _ c.allocation_usable_size.result found.1 c.allocation_usable_size.ensures;
+      step = rw found.1 (ap Ok c.allocation_usable_size.ensures);
       unknown = known c.self.inside.flex c.self.inside.rows.rows (at c.args.addr) found.0 found.1 (Ok c.allocation_usable_size.result) refl;
       len = c.allocation_usable_size.ensures ∙ ap length (sym (content_at-is h (at c.args.addr)));
     })

@@ -1,15 +1,14 @@
-use Rattle.rlsf_global.proofs.KeptMemories.{keeps_looked, kept_alone}
+use Rattle.rlsf_global.proofs.KeptMemories.{keeps_alone, keeps_looked}
 use Rattle.rlsf_global.proofs.Deallocations.{deallocated}
-use Rattle.std.proofs.Common.{Some, Ok, Err, lit<, ap, ◌∙◌, subst, sym, refl, arith}
+use Rattle.std.proofs.Common.{Some, Ok, Err, lit<, ap, ◌∙◌, sym, refl, arith}
+use Rattle.std.proofs.lemmas.Bool.{not-false, not-true}
 use Rattle.rlsf_base.specs.Addr.{at}
 use Rattle.rlsf_global.specs.Locked.{heap_of}
-use Rattle.rlsf_global.proofs.Checks.{deallocates_in, deallocates_out, same_align}
+use Rattle.rlsf_global.proofs.Checks.{same_align}
 use Rattle.rlsf_global.proofs.Lives.{has_row, known, unknown}
 use Rattle.rlsf_global.proofs.Places.{listed}
 use Rattle.rlsf_global.proofs.Placements.{live_row, released, released_locked}
-use Rattle.rlsf_global.proofs.Results.{not-false, not-true}
-use Rattle.rlsf_model_global.specs.declared.error.GlobalError.TheVariants.{UnknownAddress, WrongLayout}
-use Rattle.rlsf_model_global.specs.Steps.{DeallocatesAsAt}
+use Rattle.rlsf_model_global.specs.declared.error.GlobalError.TheVariants.{WrongLayout}
 use Rattle.rlsf_global.proofs.locked.Locked.dealloc.Goals as goal
 
 pub row_of-requires : goal.row_of-requires
@@ -30,7 +29,7 @@ pub deallocate-requires : goal.deallocate-requires
 deallocate-requires g c = (
   lit< tt,
   live_row c.self.inside.flex c.self.inside.rows.rows c.self.invariant.locked (at c.args.addr) c.in-Some.row (sym c.in-Some.ensures.row)
-      ∙ ap Some (same_align c.in-Some.row.1 c.args.layout (not-false _ c.if-ne.ensures) ∙ sym c.align.ensures.value),
+      ∙ ap Some (same_align c.in-Some.row.1 c.args.layout (not-false _ (sym c.if-ne.ensures)) ∙ sym c.align.ensures.value),
 )
 
 pub invariant_of-self-2 : goal.invariant_of-self-2
@@ -43,12 +42,10 @@ invariant_of-self-2 g c =
 
 pub returns-in_default : goal.returns-in_default
 returns-in_default g c =
-    let absent = sym c.in_default.ensures.row in
-    let h = heap_of c.self.inside.flex c.self.inside.rows.rows in
     rw (← c.self.view_is, c.row_of.ensures.table) (record {
-      step = subst (λ o. DeallocatesAsAt h (at c.args.addr) c.args.layout o (Err UnknownAddress) h) (sym absent) (refl, refl);
+      step = rw (← c.in_default.ensures.row) (refl, refl);
       result = tt;
-      unknown = unknown c.self.inside.flex c.self.inside.rows.rows (at c.args.addr) absent;
+      unknown = unknown c.self.inside.flex c.self.inside.rows.rows (at c.args.addr) (sym c.in_default.ensures.row);
       refused = record { same = refl; memory = refl };
       frame = keeps_looked c.self.inside.flex c.self.inside.rows;
       touches = omega arith;
@@ -56,12 +53,10 @@ returns-in_default g c =
 
 pub returns-then-ne : goal.returns-then-ne
 returns-then-ne g c =
-    let row = sym c.in-Some.ensures.row in
-    let h = heap_of c.self.inside.flex c.self.inside.rows.rows in
     rw (← c.self.view_is, c.row_of.ensures.table) (record {
-      step = deallocates_out h (at c.args.addr) c.args.layout c.in-Some.row (not-true _ c.if-ne.ensures) row;
+      step = rw (← c.in-Some.ensures.row, not-true _ (sym c.if-ne.ensures)) (refl, refl);
       result = tt;
-      unknown = known c.self.inside.flex c.self.inside.rows.rows (at c.args.addr) _ row (Err WrongLayout) refl;
+      unknown = known c.self.inside.flex c.self.inside.rows.rows (at c.args.addr) _ (sym c.in-Some.ensures.row) (Err WrongLayout) refl;
       refused = record { same = refl; memory = refl };
       frame = keeps_looked c.self.inside.flex c.self.inside.rows;
       touches = omega arith;
@@ -69,26 +64,19 @@ returns-then-ne g c =
 
 pub returns : goal.returns
 returns g c =
-    let row = sym c.in-Some.ensures.row in
     let did = c.deallocate.ensures in
-    let h = heap_of c.self.inside.flex c.self.inside.rows.rows in
-    let after = heap_of c.deallocate.new.self c.remove.new.self.rows in
-    let gone =
-    released c.self.inside.flex c.self.inside.rows.rows c.self.invariant.locked c.deallocate.new.self (at c.args.addr) did.step did.frame.source _
-    (rw c.row_of.ensures.table at c.remove.ensures.rows) in
+    let before = heap_of c.self.inside.flex c.self.inside.rows.rows in
+    let rows = rw c.row_of.ensures.table at c.remove.ensures.rows in
+    let looks = rw c.row_of.ensures.table at c.remove.ensures.looks in
     rw (← c.self.view_is) (record {
       step =
-          subst (λ o. DeallocatesAsAt h (at c.args.addr) c.args.layout o (Ok tt) after) (sym row)
-          (deallocates_in h (at c.args.addr) c.args.layout c.in-Some.row after (not-false _ c.if-ne.ensures) gone);
-      result = deallocated h after (at c.args.addr) (rw c.row_of.ensures.table at c.remove.ensures.rows) did.result.bytes;
-      unknown = known c.self.inside.flex c.self.inside.rows.rows (at c.args.addr) _ row (Ok tt) refl;
+          rw (← c.in-Some.ensures.row, not-false _ (sym c.if-ne.ensures))
+          (refl, released c.self.inside.flex c.self.inside.rows.rows c.self.invariant.locked c.deallocate.new.self (at c.args.addr) did.step did.frame.source _ rows);
+      result = deallocated before (heap_of c.deallocate.new.self c.remove.new.self.rows) (at c.args.addr) rows did.result.bytes;
+      unknown = known c.self.inside.flex c.self.inside.rows.rows (at c.args.addr) _ (sym c.in-Some.ensures.row) (Ok tt) refl;
       refused = tt;
-      frame = record {
-        memory = kept_alone c.self.inside.flex c.deallocate.new.self _ c.self.invariant.locked.flex did.step did.frame.place;
-        grow = did.frame.grow;
-        copied = did.frame.copied;
-        looks = let looks = rw c.row_of.ensures.table at c.remove.ensures.looks in omega (arith, looks);
-        codes = λ _. c.remove.ensures.room;
-      };
+      frame =
+          keeps_alone c.self.inside.flex c.deallocate.new.self c.self.inside.rows c.remove.new.self _ c.self.invariant.locked.flex did.step did.frame.place
+          did.frame.grow did.frame.copied (omega (arith, looks)) (λ _. c.remove.ensures.room);
       touches = did.touches;
     })

@@ -1,13 +1,11 @@
-use Rattle.rlsf_global.proofs.KeptMemories.{keeps_looked, kept_alone}
+use Rattle.rlsf_global.proofs.KeptMemories.{keeps_alone, keeps_looked}
 use Rattle.rlsf_global.proofs.Deallocations.{deallocated}
-use Rattle.std.proofs.Common.{Some, Ok, Err, lit<, ap, refl, ◌∙◌, subst, sym, arith}
+use Rattle.std.proofs.Common.{Some, Ok, lit<, ap, refl, ◌∙◌, sym, arith}
 use Rattle.rlsf_base.specs.Addr.{at}
 use Rattle.rlsf_global.specs.Locked.{heap_of}
 use Rattle.rlsf_global.proofs.Lives.{has_row, known, unknown}
 use Rattle.rlsf_global.proofs.Places.{listed}
 use Rattle.rlsf_global.proofs.Placements.{live_row, released, released_locked}
-use Rattle.rlsf_model_global.specs.Steps.{DeallocatesAt}
-use Rattle.rlsf_model_global.specs.declared.error.GlobalError.TheVariants.{UnknownAddress}
 use Rattle.rlsf_global.proofs.locked.Locked.deallocate.Goals as goal
 
 pub row_of-requires : goal.row_of-requires
@@ -38,12 +36,10 @@ invariant_of-self-2 g c =
 
 pub returns-in_default : goal.returns-in_default
 returns-in_default g c =
-    let absent = sym c.in_default.ensures.row in
-    let h = heap_of c.self.inside.flex c.self.inside.rows.rows in
     rw (← c.self.view_is, c.row_of.ensures.table) (record {
-      step = subst (λ o. DeallocatesAt h (at c.args.addr) o (Err UnknownAddress) h) (sym absent) (refl, refl);
+      step = rw (← c.in_default.ensures.row) (refl, refl);
       result = tt;
-      unknown = unknown c.self.inside.flex c.self.inside.rows.rows (at c.args.addr) absent;
+      unknown = unknown c.self.inside.flex c.self.inside.rows.rows (at c.args.addr) (sym c.in_default.ensures.row);
       refused = record { same = refl; memory = refl };
       frame = keeps_looked c.self.inside.flex c.self.inside.rows;
       touches = omega arith;
@@ -51,24 +47,19 @@ returns-in_default g c =
 
 pub returns : goal.returns
 returns g c =
-    let row = sym c.in-Some.ensures.row in
     let did = c.deallocate.ensures in
-    let h = heap_of c.self.inside.flex c.self.inside.rows.rows in
-    let after = heap_of c.deallocate.new.self c.remove.new.self.rows in
-    let gone =
-    released c.self.inside.flex c.self.inside.rows.rows c.self.invariant.locked c.deallocate.new.self (at c.args.addr) did.step did.frame.source _
-    (rw c.row_of.ensures.table at c.remove.ensures.rows) in
+    let before = heap_of c.self.inside.flex c.self.inside.rows.rows in
+    let rows = rw c.row_of.ensures.table at c.remove.ensures.rows in
+    let looks = rw c.row_of.ensures.table at c.remove.ensures.looks in
     rw (← c.self.view_is) (record {
-      step = subst (λ o. DeallocatesAt h (at c.args.addr) o (Ok tt) after) (sym row) (refl, gone);
-      result = deallocated h after (at c.args.addr) (rw c.row_of.ensures.table at c.remove.ensures.rows) did.result.bytes;
-      unknown = known c.self.inside.flex c.self.inside.rows.rows (at c.args.addr) _ row (Ok tt) refl;
+      step =
+          rw (← c.in-Some.ensures.row)
+          (refl, released c.self.inside.flex c.self.inside.rows.rows c.self.invariant.locked c.deallocate.new.self (at c.args.addr) did.step did.frame.source _ rows);
+      result = deallocated before (heap_of c.deallocate.new.self c.remove.new.self.rows) (at c.args.addr) rows did.result.bytes;
+      unknown = known c.self.inside.flex c.self.inside.rows.rows (at c.args.addr) _ (sym c.in-Some.ensures.row) (Ok tt) refl;
       refused = tt;
-      frame = record {
-        memory = kept_alone c.self.inside.flex c.deallocate.new.self _ c.self.invariant.locked.flex did.step did.frame.place;
-        grow = did.frame.grow;
-        copied = did.frame.copied;
-        looks = let looks = rw c.row_of.ensures.table at c.remove.ensures.looks in omega (arith, looks);
-        codes = λ _. c.remove.ensures.room;
-      };
+      frame =
+          keeps_alone c.self.inside.flex c.deallocate.new.self c.self.inside.rows c.remove.new.self _ c.self.invariant.locked.flex did.step did.frame.place
+          did.frame.grow did.frame.copied (omega (arith, looks)) (λ _. c.remove.ensures.room);
       touches = did.touches;
     })

@@ -1,7 +1,6 @@
 use Rattle.std.proofs.Common.{rules, ◌+◌, ◌-◌, ◌≡◌, nat_le, length, take, drop, Err, Ok, arith, lit<, ap, ◌∙◌, sym, refl}
 use Rattle.rlsf_base.specs.Addr.{at}
 use Rattle.rlsf_global.specs.Locked.{heap_of}
-use Rattle.rlsf_global.proofs.Checks.{reads_in, reads_out}
 use Rattle.rlsf_global.proofs.Layouts.{content_at-is}
 use Rattle.rlsf_global.proofs.Lives.{found_row, known, no_row_found, unknown}
 use Rattle.rlsf_global.proofs.Placements.{live_here}
@@ -26,12 +25,9 @@ returns-then-not-has_row g c =
 pub returns-then-not-fits : goal.returns-then-not-fits
 returns-then-not-fits g c =
     let found = found_row c.self.inside.rows.rows (at c.args.addr) c.if-not-has_row.ensures in
-    let h = heap_of c.self.inside.flex c.self.inside.rows.rows in
-    let lent = c.args.bytes.now in
+    let far = c.if-not-fits.ensures ∙ ap (λ l. nat_le (c.args.offset + length c.args.bytes.now) (length l)) c.payload-payload.ensures in
     rw (← c.self.view_is) (record {
-      step =
-          reads_out h (at c.args.addr) c.args.offset found.0 found.1 lent
-          (c.if-not-fits.ensures ∙ ap (λ l. nat_le (c.args.offset + length lent) (length l)) c.payload-payload.ensures);
+      step = rw (found.1, ← far) (refl, refl);
       unknown = known c.self.inside.flex c.self.inside.rows.rows (at c.args.addr) found.0 found.1 (Err OutOfRange) refl;
       told = tt;
       refused = refl;
@@ -44,13 +40,11 @@ returns g c =
     let lent = c.args.bytes.now in
     let offset = c.args.offset in
     let same = c.payload-payload.ensures in
+    let near = c.if-not-fits.ensures ∙ ap (λ l. nat_le (offset + length lent) (length l)) same in
     let n : offset + length lent - offset ≡ length lent = omega arith in
     let copied = c.copy_from_slice.ensures.after ∙ ap (λ k. take k (drop offset c.payload-payload.result.now)) n in
     rw (← c.self.view_is) (record {
-      step =
-          reads_in h (at c.args.addr) offset found.0 found.1 lent c.copy_from_slice.new.self
-          (c.if-not-fits.ensures ∙ ap (λ l. nat_le (offset + length lent) (length l)) same)
-          (copied ∙ ap (λ l. take (length lent) (drop offset l)) same);
+      step = rw (found.1, ← near) (refl, copied ∙ ap (λ l. take (length lent) (drop offset l)) same);
       unknown = known c.self.inside.flex c.self.inside.rows.rows (at c.args.addr) found.0 found.1 (Ok tt) refl;
       told = copied ∙ ap (λ l. take (length lent) (drop offset l)) (same ∙ sym (content_at-is h (at c.args.addr)));
       refused = tt;

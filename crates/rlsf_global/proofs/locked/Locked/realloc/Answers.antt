@@ -1,26 +1,22 @@
-use Rattle.rlsf_base.specs.Sizes.{request_size}
-use Rattle.rlsf_model.specs.Allocate.{HasRoomFor, choice}
-use Rattle.rlsf_model.specs.Reallocate.{HasRoomToResize}
-use Rattle.std.proofs.Common.{rules, IsSome, ◌≡◌, ◌≤◌, ◌+◌, true, false, length, Some, Ok, Err, lit<, ap, ◌∙◌, subst, sym, refl, arith}
-use Rattle.rlsf_global.proofs.KeptMemories.{KeepsMemory-refl, copies_nothing}
+use Rattle.std.proofs.Common.{rules, ◌≤◌, length, Some, Ok, Err, lit<, ap, ◌∙◌, subst, sym, refl, arith}
+use Rattle.std.proofs.lemmas.Bool.{not-false, not-true}
+use Rattle.rlsf_global.proofs.KeptMemories.{keeps_looked_resizing}
 use Rattle.rlsf_global.proofs.Layouts.{content_at-bytes, layout_at-moved_left, layout_at-moved_other, layout_at-none, layout_at-put_here}
 use Rattle.rlsf_base.specs.Addr.{at}
 use Rattle.rlsf_global.specs.LiveRows.{looked}
 use Rattle.rlsf_global.specs.Locked.{heap_of, locked_contents}
-use Rattle.rlsf_global.specs.Memory.{CopiesOnResize}
 use Rattle.rlsf_global.proofs.Checks.{same_align, same_size}
-use Rattle.rlsf_global.proofs.MovedPayloads.{moved_locked, moved_row, refused_locked, same_heap, reallocates_in, reallocates_out}
+use Rattle.rlsf_global.proofs.MovedPayloads.{moved_locked, moved_row}
 use Rattle.rlsf_global.proofs.Kept.{kept_asked, kept_usable}
 use Rattle.rlsf_global.proofs.Lives.{has_row, known, unknown}
 use Rattle.rlsf_global.proofs.Places.{has_code, listed, space_stays}
-use Rattle.rlsf_global.proofs.Placements.{live_row, no_row, row_sized}
-use Rattle.rlsf_global.proofs.Results.{not-false, not-true}
+use Rattle.rlsf_global.proofs.Placements.{live_row, no_row, refused_locked, row_sized, same_heap}
 use Rattle.rlsf_model.specs.Callers.{bytes_at}
 use Rattle.rlsf_model_global.specs.declared.error.GlobalError.TheVariants.{NoRoom, WrongLayout}
-use Rattle.rlsf_model_global.specs.Moves.{HeapReallocatesAs, ReallocatesAsAt, ReallocatesTo}
+use Rattle.rlsf_model_global.specs.Moves.{HeapReallocatesAs}
 use Rattle.rlsf_global.proofs.locked.Locked.realloc.Given as given
 use Rattle.rlsf_global.proofs.locked.Locked.realloc.Goals as goal
-use Rattle.rlsf_global.proofs.locked.Locked.realloc.Goals.{After-move_row, After-resize}
+use Rattle.rlsf_global.proofs.locked.Locked.realloc.Goals.{After-move_row}
 
 pub row_of-requires : goal.row_of-requires
 row_of-requires g c = (lit< tt, c.self.invariant.locked.lists)
@@ -34,7 +30,7 @@ invariant_of-self-then-ne g c = rw c.row_of.ensures.table (record { locked = c.s
 pub resize-requires : goal.resize-requires
 resize-requires g c =
     let row = sym c.in-Some.ensures.row in
-    let same = not-false _ c.if-ne.ensures in
+    let same = not-false _ (sym c.if-ne.ensures) in
     let live =
     live_row c.self.inside.flex c.self.inside.rows.rows c.self.invariant.locked (at c.args.addr) c.in-Some.row row
     ∙ ap Some (same_align c.in-Some.row.1 c.args.layout same) in
@@ -81,48 +77,18 @@ did_step : (g : given.Over) (c : After-move_row g)
     → HeapReallocatesAs g.Options.GlobalTlsfOptions.ENABLE_REALLOCATION (heap_of c.self.inside.flex c.self.inside.rows.rows) (at c.args.addr) c.args.layout c.args.new_size
     (Ok c.in-Some-resize.moved) (heap_of c.resize.new.flex c.move_row.new.self.rows)
 did_step g c =
-    let h = heap_of c.self.inside.flex c.self.inside.rows.rows in
-    let after = heap_of c.resize.new.flex c.move_row.new.self.rows in
-    let row = sym c.in-Some.ensures.row in
     let wanted = c.from_size_align_unchecked-wanted in
-    let enabled = g.Options.GlobalTlsfOptions.ENABLE_REALLOCATION in
-    let step =
-    subst (λ l. ReallocatesTo enabled h (at c.args.addr) c.args.layout wanted.result (Ok c.in-Some-resize.moved) (heap_of c.resize.new.flex l))
-    (sym (rw c.row_of.ensures.table at c.move_row.ensures.rows))
-    (c.in-Some-resize.ensures.step c.self.inside.rows.rows) in
-    subst (λ o. ReallocatesAsAt enabled h (at c.args.addr) c.args.layout c.args.new_size o (Ok c.in-Some-resize.moved) after) (sym row)
-    (reallocates_in enabled h (at c.args.addr) c.args.layout c.args.new_size c.in-Some.row wanted.result (Ok c.in-Some-resize.moved) after (not-false _ c.if-ne.ensures)
-    wanted.ensures.0 (wanted.ensures.1 ∙ c.align.ensures.value) step)
-
--- the word accesses, as the size and the alignment are those of the wanted layout
-touches_there : (g : given.Over) (c : After-resize g) → g.Options.GlobalTlsfOptions.ENABLE_REALLOCATION ≡ true
-    → HasRoomToResize 64 c.self.inside.flex.state.machine (at c.args.addr) c.args.new_size
-    → c.resize.new.flex.memory.touches ≤ c.self.inside.flex.memory.touches + 66
-touches_there g c on room =
-    c.resize.ensures.touches.room on (subst (HasRoomToResize 64 c.self.inside.flex.state.machine (at c.args.addr)) (sym c.from_size_align_unchecked-wanted.ensures.0) room)
-
-touches_elsewhere : (g : given.Over) (c : After-resize g) → g.Options.GlobalTlsfOptions.ENABLE_REALLOCATION ≡ false
-    → HasRoomFor 64 c.self.inside.flex.state.machine c.args.new_size c.args.layout.align
-    → c.resize.new.flex.memory.touches ≤ c.self.inside.flex.memory.touches + 59
-touches_elsewhere g c off some =
-    let wanted = c.from_size_align_unchecked-wanted in
-    let free = c.self.inside.flex.state.machine.free in
-    let same = ap (λ n. request_size n c.args.layout.align) (sym wanted.ensures.0) ∙ ap (request_size wanted.result.size) (sym (wanted.ensures.1 ∙ c.align.ensures.value)) in
-    c.resize.ensures.touches.elsewhere off (subst (λ n. IsSome (choice 64 n free)) same some)
-
--- and the bytes that were copied
-copied : (g : given.Over) (c : After-resize g)
-    → CopiesOnResize g.Options.GlobalTlsfOptions.ENABLE_REALLOCATION c.self.inside.flex.state.machine (at c.args.addr) c.args.layout.size c.args.new_size
-    c.self.inside.flex.memory c.resize.new.flex.memory
-copied g c =
-    subst (λ n. CopiesOnResize g.Options.GlobalTlsfOptions.ENABLE_REALLOCATION c.self.inside.flex.state.machine (at c.args.addr) c.args.layout.size n
-    c.self.inside.flex.memory c.resize.new.flex.memory)
-    c.from_size_align_unchecked-wanted.ensures.0 c.resize.ensures.frame.copied
+    let rows = rw c.row_of.ensures.table at c.move_row.ensures.rows in
+    rw (← c.in-Some.ensures.row, not-false _ (sym c.if-ne.ensures)) (record {
+      layout = wanted.result;
+      size = wanted.ensures.0;
+      align = wanted.ensures.1 ∙ c.align.ensures.value;
+      made = rw rows (c.in-Some-resize.ensures.step c.self.inside.rows.rows);
+    })
 
 pub returns : goal.returns
 returns g c =
     let k = (goal.at.returns g c).After-move_row in
-    let call = (goal.at.returns g c).After-resize in
     let rows = rw c.row_of.ensures.table at c.move_row.ensures.rows in
     let step = did_step g k in
     let moved = c.in-Some-resize.ensures.moved in
@@ -133,7 +99,7 @@ returns g c =
     let contents = locked_contents c.self.inside.flex c.self.inside.rows in
     let row = sym c.in-Some.ensures.row in
     let sized =
-    subst (λ n. n ≤ length (bytes_at c.self.inside.flex.state.machine (at c.args.addr))) (same_size c.in-Some.row.1 c.args.layout (not-false _ c.if-ne.ensures))
+    subst (λ n. n ≤ length (bytes_at c.self.inside.flex.state.machine (at c.args.addr))) (same_size c.in-Some.row.1 c.args.layout (not-false _ (sym c.if-ne.ensures)))
     (row_sized c.self.inside.flex c.self.inside.rows.rows c.self.invariant.locked (at c.args.addr) c.in-Some.row row) in
     rw (← c.self.view_is) (record {
       step = step;
@@ -158,79 +124,60 @@ returns g c =
       frame = record {
         memory = c.resize.ensures.frame.memory;
         grow = c.resize.ensures.frame.grow;
-        copied = copied g call;
+        copied = rw (← wanted.ensures.0) c.resize.ensures.frame.copied;
         looks = let looks = rw c.row_of.ensures.table at c.move_row.ensures.looks in omega (arith, looks);
         codes = λ _. c.move_row.ensures.room;
       };
-      touches = record { room = touches_there g call; elsewhere = touches_elsewhere g call };
+      touches = rw (← wanted.ensures.0, ← (wanted.ensures.1 ∙ c.align.ensures.value)) c.resize.ensures.touches;
     })
 
 pub returns-in_default : goal.returns-in_default
 returns-in_default g c =
-    let absent = sym c.in_default.ensures.row in
     rw (← c.self.view_is, c.row_of.ensures.table) (record {
       step = search rules;
       result = tt;
-      unknown = unknown c.self.inside.flex c.self.inside.rows.rows (at c.args.addr) absent;
+      unknown = unknown c.self.inside.flex c.self.inside.rows.rows (at c.args.addr) (sym c.in_default.ensures.row);
       refused = record { same = refl; bytes = refl };
       unasked = refl;
-      frame = record {
-        memory = KeepsMemory-refl c.self.inside.flex;
-        grow = omega arith;
-        copied = copies_nothing _ _ _ _ _ _;
-        looks = omega arith;
-        codes = λ has. has;
-      };
+      frame =
+          keeps_looked_resizing g.Options.GlobalTlsfOptions.ENABLE_REALLOCATION (at c.args.addr) c.args.layout.size c.args.new_size c.self.inside.flex c.self.inside.rows;
       touches = record { room = λ _ _. omega arith; elsewhere = λ _ _. omega arith };
     })
 
 pub returns-then-ne : goal.returns-then-ne
 returns-then-ne g c =
-    let row = sym c.in-Some.ensures.row in
     rw (← c.self.view_is, c.row_of.ensures.table) (record {
-      step =
-          reallocates_out g.Options.GlobalTlsfOptions.ENABLE_REALLOCATION (heap_of c.self.inside.flex c.self.inside.rows.rows) (at c.args.addr) c.args.layout c.args.new_size
-          c.in-Some.row (not-true _ c.if-ne.ensures) row;
+      step = rw (← c.in-Some.ensures.row, not-true _ (sym c.if-ne.ensures)) (refl, refl);
       result = tt;
-      unknown = known c.self.inside.flex c.self.inside.rows.rows (at c.args.addr) _ row (Err WrongLayout) refl;
+      unknown = known c.self.inside.flex c.self.inside.rows.rows (at c.args.addr) _ (sym c.in-Some.ensures.row) (Err WrongLayout) refl;
       refused = record { same = refl; bytes = refl };
       unasked = refl;
-      frame = record {
-        memory = KeepsMemory-refl c.self.inside.flex;
-        grow = omega arith;
-        copied = copies_nothing _ _ _ _ _ _;
-        looks = omega arith;
-        codes = λ has. has;
-      };
+      frame =
+          keeps_looked_resizing g.Options.GlobalTlsfOptions.ENABLE_REALLOCATION (at c.args.addr) c.args.layout.size c.args.new_size c.self.inside.flex c.self.inside.rows;
       touches = record { room = λ _ _. omega arith; elsewhere = λ _ _. omega arith };
     })
 
 pub returns-in_default-resize : goal.returns-in_default-resize
 returns-in_default-resize g c =
-    let call = (goal.at.returns-in_default-resize g c).After-resize in
-    let h = heap_of c.self.inside.flex c.self.inside.rows.rows in
-    let after = heap_of c.resize.new.flex c.self.inside.rows.rows in
-    let row = sym c.in-Some.ensures.row in
     let wanted = c.from_size_align_unchecked-wanted in
-    let enabled = g.Options.GlobalTlsfOptions.ENABLE_REALLOCATION in
     let stays = c.in_default-resize.ensures.refused in
     rw (← c.self.view_is, c.row_of.ensures.table) (record {
-      step =
-          subst (λ o. ReallocatesAsAt enabled h (at c.args.addr) c.args.layout c.args.new_size o (Err NoRoom) after) (sym row)
-          (reallocates_in enabled h (at c.args.addr) c.args.layout c.args.new_size c.in-Some.row wanted.result (Err NoRoom) after (not-false _ c.if-ne.ensures)
-          wanted.ensures.0
-          (wanted.ensures.1 ∙ c.align.ensures.value)
-          (c.in_default-resize.ensures.none c.self.inside.rows.rows));
+      step = rw (← c.in-Some.ensures.row, not-false _ (sym c.if-ne.ensures)) (record {
+        layout = wanted.result;
+        size = wanted.ensures.0;
+        align = wanted.ensures.1 ∙ c.align.ensures.value;
+        made = c.in_default-resize.ensures.none c.self.inside.rows.rows;
+      });
       result = tt;
-      unknown = known c.self.inside.flex c.self.inside.rows.rows (at c.args.addr) _ row (Err NoRoom) refl;
+      unknown = known c.self.inside.flex c.self.inside.rows.rows (at c.args.addr) _ (sym c.in-Some.ensures.row) (Err NoRoom) refl;
       refused = record { same = same_heap c.self.inside.flex c.resize.new.flex c.self.inside.rows.rows stays.state stays.source; bytes = stays.bytes };
       unasked = tt;
       frame = record {
         memory = c.resize.ensures.frame.memory;
         grow = c.resize.ensures.frame.grow;
-        copied = copied g call;
+        copied = rw (← wanted.ensures.0) c.resize.ensures.frame.copied;
         looks = omega arith;
         codes = λ has. has;
       };
-      touches = record { room = touches_there g call; elsewhere = touches_elsewhere g call };
+      touches = rw (← wanted.ensures.0, ← (wanted.ensures.1 ∙ c.align.ensures.value)) c.resize.ensures.touches;
     })

@@ -1,16 +1,16 @@
 use Rattle.rlsf_global.proofs.KeptMemories.{KeepsMemory-refl}
 use Rattle.rlsf_global.proofs.Layouts.{content_at-bytes, content_at-is, layout_at-moved_left, layout_at-moved_other, layout_at-none, layout_at-put_here}
-use Rattle.std.proofs.Common.{rules, ◌+◌, length, arith, min, Some, Ok, Err, lit<, ap, ◌∙◌, subst, sym, refl}
+use Rattle.std.proofs.Common.{rules, ◌+◌, length, arith, min, Some, Ok, Err, lit<, ap, ◌∙◌, sym, refl}
 use Rattle.rlsf_base.specs.Addr.{at}
 use Rattle.rlsf_global.specs.LiveRows.{looked}
 use Rattle.rlsf_global.specs.Locked.{heap_of, locked_contents}
-use Rattle.rlsf_global.proofs.MovedPayloads.{moved_locked, moved_row, refused_locked, same_heap}
+use Rattle.rlsf_global.proofs.MovedPayloads.{moved_locked, moved_row}
 use Rattle.rlsf_global.proofs.Kept.{kept_elsewhere}
 use Rattle.rlsf_global.proofs.Lives.{has_row, known, unknown}
 use Rattle.rlsf_global.proofs.Places.{has_code, listed, space_stays}
-use Rattle.rlsf_global.proofs.Placements.{live_here, live_row, no_row}
+use Rattle.rlsf_global.proofs.Placements.{live_here, live_row, no_row, refused_locked, same_heap}
 use Rattle.rlsf_model_global.specs.declared.error.GlobalError.TheVariants.{NoRoom}
-use Rattle.rlsf_model_global.specs.Moves.{HeapReallocates, HeapMovesAway, ReallocatesAt}
+use Rattle.rlsf_model_global.specs.Moves.{HeapReallocates}
 use Rattle.rlsf_global.proofs.locked.Locked.reallocate.Given as given
 use Rattle.rlsf_global.proofs.locked.Locked.reallocate.Goals as goal
 use Rattle.rlsf_global.proofs.locked.Locked.reallocate.Goals.{After-move_row}
@@ -68,16 +68,9 @@ did_step : (g : given.Over) (c : After-move_row g)
     → HeapReallocates (heap_of c.self.inside.flex c.self.inside.rows.rows) (at c.args.addr) c.args.layout (Ok c.in-Some-move_away.to)
     (heap_of c.move_away.new.flex c.move_row.new.self.rows)
 did_step g c =
-    let h = heap_of c.self.inside.flex c.self.inside.rows.rows in
-    let after = heap_of c.move_away.new.flex c.move_row.new.self.rows in
-    let row = sym c.in-Some.ensures.row in
     let keep = c.min-keep.ensures ∙ ap (λ n. min n c.allocation_usable_size.result) c.size.ensures.value ∙ ap (min c.args.layout.size) c.allocation_usable_size.ensures in
-    let step =
-    subst (λ l. HeapMovesAway h (at c.args.addr) c.min-keep.result c.args.layout (Ok c.in-Some-move_away.to) (heap_of c.move_away.new.flex l))
-    (sym (rw c.row_of.ensures.table at c.move_row.ensures.rows))
-    (c.in-Some-move_away.ensures.step c.self.inside.rows.rows) in
-    subst (λ o. ReallocatesAt h (at c.args.addr) c.args.layout o (Ok c.in-Some-move_away.to) after) (sym row)
-    (subst (λ n. HeapMovesAway h (at c.args.addr) n c.args.layout (Ok c.in-Some-move_away.to) after) keep step)
+    let rows = rw c.row_of.ensures.table at c.move_row.ensures.rows in
+    rw (← c.in-Some.ensures.row, ← keep, rows) (c.in-Some-move_away.ensures.step c.self.inside.rows.rows)
 
 pub returns : goal.returns
 returns g c =
@@ -117,11 +110,10 @@ returns g c =
 
 pub returns-in_default : goal.returns-in_default
 returns-in_default g c =
-    let absent = sym c.in_default.ensures.row in
     rw (← c.self.view_is, c.row_of.ensures.table) (record {
       step = search rules;
       result = tt;
-      unknown = unknown c.self.inside.flex c.self.inside.rows.rows (at c.args.addr) absent;
+      unknown = unknown c.self.inside.flex c.self.inside.rows.rows (at c.args.addr) (sym c.in_default.ensures.row);
       refused = record { same = refl; bytes = refl };
       unasked = refl;
       frame = record {
@@ -137,17 +129,11 @@ returns-in_default g c =
 
 pub returns-in_default-move_away : goal.returns-in_default-move_away
 returns-in_default-move_away g c =
-    let h = heap_of c.self.inside.flex c.self.inside.rows.rows in
-    let after = heap_of c.move_away.new.flex c.self.inside.rows.rows in
-    let row = sym c.in-Some.ensures.row in
-    let keep = c.min-keep.ensures ∙ ap (λ n. min n c.allocation_usable_size.result) c.size.ensures.value ∙ ap (min c.args.layout.size) c.allocation_usable_size.ensures in
     let stays = c.in_default-move_away.ensures.refused in
     rw (← c.self.view_is, c.row_of.ensures.table) (record {
-      step =
-          subst (λ o. ReallocatesAt h (at c.args.addr) c.args.layout o (Err NoRoom) after) (sym row)
-          (subst (λ n. HeapMovesAway h (at c.args.addr) n c.args.layout (Err NoRoom) after) keep (c.in_default-move_away.ensures.none c.self.inside.rows.rows));
+      step = rw (← c.in-Some.ensures.row) (c.in_default-move_away.ensures.none c.self.inside.rows.rows);
       result = tt;
-      unknown = known c.self.inside.flex c.self.inside.rows.rows (at c.args.addr) _ row (Err NoRoom) refl;
+      unknown = known c.self.inside.flex c.self.inside.rows.rows (at c.args.addr) _ (sym c.in-Some.ensures.row) (Err NoRoom) refl;
       refused = record { same = same_heap c.self.inside.flex c.move_away.new.flex c.self.inside.rows.rows stays.state stays.source; bytes = stays.bytes };
       unasked = tt;
       frame = record {

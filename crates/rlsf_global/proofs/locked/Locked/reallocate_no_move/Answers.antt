@@ -1,7 +1,7 @@
 use Rattle.std.proofs.Common.{rules, ◌≡◌, IsSome, Some, Ok, Err, lit<, ap, ◌∙◌, subst, sym, refl, arith}
+use Rattle.std.proofs.lemmas.Bool.{not-false, not-true}
 use Rattle.rlsf_model_global.specs.Heap.{layout_at}
-use Rattle.rlsf_global.proofs.KeptMemories.{keeps_looked, kept_alone}
-use Rattle.rlsf_global.proofs.MovedPayloads.{same_heap}
+use Rattle.rlsf_global.proofs.KeptMemories.{keeps_alone, keeps_looked}
 use Rattle.rlsf_global.proofs.Layouts.{content_at-bytes, layout_at-moved_other, layout_at-put_here}
 use Rattle.rlsf_base.specs.Addr.{at}
 use Rattle.rlsf_global.specs.LiveRows.{looked}
@@ -10,11 +10,10 @@ use Rattle.rlsf_global.proofs.Checks.{same_align}
 use Rattle.rlsf_global.proofs.Kept.{kept_there}
 use Rattle.rlsf_global.proofs.Lives.{has_row, known, unknown}
 use Rattle.rlsf_global.proofs.Places.{listed}
-use Rattle.rlsf_global.proofs.Placements.{live_row}
-use Rattle.rlsf_global.proofs.Resizes.{not_resized, not_resized_locked, resized, resized_locked, resizes_in, resizes_out, row_there}
-use Rattle.rlsf_global.proofs.Results.{not-false, not-true}
+use Rattle.rlsf_global.proofs.Placements.{live_row, same_heap}
+use Rattle.rlsf_global.proofs.Resizes.{not_resized, not_resized_locked, resized, resized_locked, row_there}
 use Rattle.rlsf_model_global.specs.declared.error.GlobalError.TheVariants.{NoRoom, WrongLayout}
-use Rattle.rlsf_model_global.specs.Moves.{HeapReallocatesThere, ReallocatesThereAt}
+use Rattle.rlsf_model_global.specs.Moves.{HeapReallocatesThere}
 use Rattle.rlsf_model_global.specs.Rows.{put, row_at, without_row}
 use Rattle.rlsf_global.proofs.locked.Locked.reallocate_no_move.Given as given
 use Rattle.rlsf_global.proofs.locked.Locked.reallocate_no_move.Goals as goal
@@ -39,7 +38,7 @@ invariant_of-self-then-ne g c = rw c.row_of.ensures.table (record { locked = c.s
 pub reallocate_no_move-requires : goal.reallocate_no_move-requires
 reallocate_no_move-requires g c =
     let row = sym c.in-Some.ensures.row in
-    let aligned = same_align c.in-Some.row.1 c.args.layout (not-false _ c.if-ne.ensures) ∙ sym (c.from_size_align_unchecked-wanted.ensures.1 ∙ c.align.ensures.value) in
+    let aligned = same_align c.in-Some.row.1 c.args.layout (not-false _ (sym c.if-ne.ensures)) ∙ sym (c.from_size_align_unchecked-wanted.ensures.1 ∙ c.align.ensures.value) in
     (lit< tt, live_row c.self.inside.flex c.self.inside.rows.rows c.self.invariant.locked (at c.args.addr) c.in-Some.row row ∙ ap Some aligned)
 
 pub invariant_of-self-in_default-reallocate_no_move : goal.invariant_of-self-in_default-reallocate_no_move
@@ -75,20 +74,16 @@ did_step : (g : given.Over) (c : After-replace g)
     → HeapReallocatesThere (heap_of c.self.inside.flex c.self.inside.rows.rows) (at c.args.addr) c.args.layout c.args.new_size (Ok c.in-Some-reallocate_no_move.to)
     (heap_of c.reallocate_no_move.new.self c.replace.new.self.rows)
 did_step g c =
-    let h = heap_of c.self.inside.flex c.self.inside.rows.rows in
-    let after = heap_of c.reallocate_no_move.new.self c.replace.new.self.rows in
     let did = c.in-Some-reallocate_no_move.ensures in
-    let row = sym c.in-Some.ensures.row in
     let wanted = c.from_size_align_unchecked-wanted in
-    let step =
-    resized c.self.inside.flex c.self.inside.rows.rows c.self.invariant.locked c.reallocate_no_move.new.self (at c.args.addr) wanted.result did.frame.source
-    c.in-Some-reallocate_no_move.to
-    did.result.there did.step
-    _ (replaced g c) in
-    subst (λ o. ReallocatesThereAt h (at c.args.addr) c.args.layout c.args.new_size o (Ok c.in-Some-reallocate_no_move.to) after) (sym row)
-    (resizes_in h (at c.args.addr) c.args.layout c.args.new_size c.in-Some.row wanted.result (Ok c.in-Some-reallocate_no_move.to) after (not-false _ c.if-ne.ensures)
-    wanted.ensures.0
-    (wanted.ensures.1 ∙ c.align.ensures.value) step)
+    rw (← c.in-Some.ensures.row, not-false _ (sym c.if-ne.ensures)) (record {
+      layout = wanted.result;
+      size = wanted.ensures.0;
+      align = wanted.ensures.1 ∙ c.align.ensures.value;
+      made =
+          resized c.self.inside.flex c.self.inside.rows.rows c.self.invariant.locked c.reallocate_no_move.new.self (at c.args.addr) wanted.result did.frame.source
+          c.in-Some-reallocate_no_move.to did.result.there did.step _ (replaced g c);
+    })
 
 pub returns : goal.returns
 returns g c =
@@ -100,6 +95,7 @@ returns g c =
     let before = heap_of c.self.inside.flex c.self.inside.rows.rows in
     let after = heap_of c.reallocate_no_move.new.self c.replace.new.self.rows in
     let here = layout_at-put_here before after (c.in-Some-reallocate_no_move.to, wanted.result) _ rows in
+    let looks = rw c.row_of.ensures.table at c.replace.ensures.looks in
     rw (← c.self.view_is) (record {
       step = step;
       result = record {
@@ -116,23 +112,18 @@ returns g c =
       unknown = known c.self.inside.flex c.self.inside.rows.rows (at c.args.addr) _ (sym c.in-Some.ensures.row) (Ok c.in-Some-reallocate_no_move.to) refl;
       refused = tt;
       unasked = tt;
-      frame = record {
-        memory = kept_alone c.self.inside.flex c.reallocate_no_move.new.self _ c.self.invariant.locked.flex did.step did.frame.place;
-        grow = did.frame.grow;
-        copied = did.frame.copied;
-        looks = let looks = rw c.row_of.ensures.table at c.replace.ensures.looks in omega (arith, looks);
-        codes = λ _. c.replace.ensures.room;
-      };
+      frame =
+          keeps_alone c.self.inside.flex c.reallocate_no_move.new.self c.self.inside.rows c.replace.new.self _ c.self.invariant.locked.flex did.step did.frame.place
+          did.frame.grow did.frame.copied (omega (arith, looks)) (λ _. c.replace.ensures.room);
       touches = did.touches;
     })
 
 pub returns-in_default : goal.returns-in_default
 returns-in_default g c =
-    let absent = sym c.in_default.ensures.row in
     rw (← c.self.view_is, c.row_of.ensures.table) (record {
       step = search rules;
       result = tt;
-      unknown = unknown c.self.inside.flex c.self.inside.rows.rows (at c.args.addr) absent;
+      unknown = unknown c.self.inside.flex c.self.inside.rows.rows (at c.args.addr) (sym c.in_default.ensures.row);
       refused = record { same = refl; bytes = refl };
       unasked = refl;
       frame = keeps_looked c.self.inside.flex c.self.inside.rows;
@@ -141,13 +132,10 @@ returns-in_default g c =
 
 pub returns-then-ne : goal.returns-then-ne
 returns-then-ne g c =
-    let row = sym c.in-Some.ensures.row in
     rw (← c.self.view_is, c.row_of.ensures.table) (record {
-      step =
-          resizes_out (heap_of c.self.inside.flex c.self.inside.rows.rows) (at c.args.addr) c.args.layout c.args.new_size
-          c.in-Some.row (not-true _ c.if-ne.ensures) row;
+      step = rw (← c.in-Some.ensures.row, not-true _ (sym c.if-ne.ensures)) (refl, refl);
       result = tt;
-      unknown = known c.self.inside.flex c.self.inside.rows.rows (at c.args.addr) _ row (Err WrongLayout) refl;
+      unknown = known c.self.inside.flex c.self.inside.rows.rows (at c.args.addr) _ (sym c.in-Some.ensures.row) (Err WrongLayout) refl;
       refused = record { same = refl; bytes = refl };
       unasked = refl;
       frame = keeps_looked c.self.inside.flex c.self.inside.rows;
@@ -156,32 +144,24 @@ returns-then-ne g c =
 
 pub returns-in_default-reallocate_no_move : goal.returns-in_default-reallocate_no_move
 returns-in_default-reallocate_no_move g c =
-    let h = heap_of c.self.inside.flex c.self.inside.rows.rows in
-    let after = heap_of c.reallocate_no_move.new.self c.self.inside.rows.rows in
     let did = c.in_default-reallocate_no_move.ensures in
-    let row = sym c.in-Some.ensures.row in
     let wanted = c.from_size_align_unchecked-wanted in
-    let step =
-    not_resized c.self.inside.flex c.self.inside.rows.rows c.self.invariant.locked c.reallocate_no_move.new.self (at c.args.addr) wanted.result did.frame.source did.step
-    did.refused.same in
+    let same = same_heap c.self.inside.flex c.reallocate_no_move.new.self c.self.inside.rows.rows did.refused.same did.frame.source in
     rw (← c.self.view_is, c.row_of.ensures.table) (record {
-      step =
-          subst (λ o. ReallocatesThereAt h (at c.args.addr) c.args.layout c.args.new_size o (Err NoRoom) after) (sym row)
-          (resizes_in h (at c.args.addr) c.args.layout c.args.new_size c.in-Some.row wanted.result (Err NoRoom) after (not-false _ c.if-ne.ensures) wanted.ensures.0
-          (wanted.ensures.1 ∙ c.align.ensures.value) step);
+      step = rw (← c.in-Some.ensures.row, not-false _ (sym c.if-ne.ensures)) (record {
+        layout = wanted.result;
+        size = wanted.ensures.0;
+        align = wanted.ensures.1 ∙ c.align.ensures.value;
+        made =
+            not_resized c.self.inside.flex c.self.inside.rows.rows c.self.invariant.locked c.reallocate_no_move.new.self (at c.args.addr) wanted.result did.frame.source
+            did.step did.refused.same;
+      });
       result = tt;
-      unknown = known c.self.inside.flex c.self.inside.rows.rows (at c.args.addr) _ row (Err NoRoom) refl;
-      refused = record {
-        same = same_heap c.self.inside.flex c.reallocate_no_move.new.self c.self.inside.rows.rows did.refused.same did.frame.source;
-        bytes = did.refused.bytes;
-      };
+      unknown = known c.self.inside.flex c.self.inside.rows.rows (at c.args.addr) _ (sym c.in-Some.ensures.row) (Err NoRoom) refl;
+      refused = record { same = same; bytes = did.refused.bytes };
       unasked = tt;
-      frame = record {
-        memory = kept_alone c.self.inside.flex c.reallocate_no_move.new.self _ c.self.invariant.locked.flex did.step did.frame.place;
-        grow = did.frame.grow;
-        copied = did.frame.copied;
-        looks = omega arith;
-        codes = λ has. has;
-      };
+      frame =
+          keeps_alone c.self.inside.flex c.reallocate_no_move.new.self c.self.inside.rows (looked c.self.inside.rows) _ c.self.invariant.locked.flex did.step did.frame.place
+          did.frame.grow did.frame.copied (omega arith) (λ has. has);
       touches = did.touches;
     })

@@ -1,4 +1,4 @@
-use Rattle.rlsf_global.proofs.KeptMemories.{KeepsMemory-refl, kept_alone}
+use Rattle.rlsf_global.proofs.KeptMemories.{keeps_looked_writing, kept_alone}
 use Rattle.rlsf_global.proofs.Layouts.{content_at-bytes, content_at-is, layout_at-row}
 use Rattle.std.proofs.Common.{rules, arith, ◌+◌, nat_le, length, Ok, Err, lit<, refl, ap, ◌∙◌, subst, sym}
 use Rattle.std.specs.List.{splice}
@@ -6,7 +6,6 @@ use Rattle.rlsf_base.specs.Addr.{at}
 use Rattle.rlsf_flex.specs.Lending.{flex_written}
 use Rattle.rlsf_global.specs.LiveRows.{looked}
 use Rattle.rlsf_global.specs.Locked.{heap_of}
-use Rattle.rlsf_global.proofs.Checks.{writes_in, writes_out}
 use Rattle.rlsf_global.proofs.Lives.{known, unknown}
 use Rattle.rlsf_global.proofs.Places.{listed}
 use Rattle.rlsf_global.proofs.Placements.{filled, filled_locked, live_here}
@@ -49,83 +48,54 @@ returns-in_default g c = rw (← c.self.view_is, c.row_of.ensures.table) (record
   result = tt;
   unknown = unknown c.self.inside.flex c.self.inside.rows.rows (at c.args.addr) (sym c.in_default.ensures.row);
   refused = record { same = refl; memory = refl };
-  frame = record {
-    layouts = refl;
-    memory = KeepsMemory-refl c.self.inside.flex;
-    grow = omega arith;
-    copied = refl;
-    looks = omega arith;
-    codes = λ has. has;
-  };
+  frame = keeps_looked_writing c.self.inside.flex c.self.inside.rows;
   touches = omega arith;
 })
 
 pub returns-then-not-fits : goal.returns-then-not-fits
-returns-then-not-fits g c = rw (← c.self.view_is, c.row_of.ensures.table) (record {
-  step = (
-      let h = heap_of c.self.inside.flex c.self.inside.rows.rows in
-      let bytes = c.args.bytes.now in
-      writes_out h (at c.args.addr) c.args.offset _ (sym c.in-Some.ensures.row) bytes
-      (c.if-not-fits.ensures ∙ ap (nat_le (c.args.offset + length bytes)) c.allocation_usable_size.ensures));
-  result = tt;
-  unknown = known c.self.inside.flex c.self.inside.rows.rows (at c.args.addr) _ (sym c.in-Some.ensures.row) (Err OutOfRange) refl;
-  refused = record { same = refl; memory = refl };
-  frame = record {
-    layouts = refl;
-    memory = KeepsMemory-refl c.self.inside.flex;
-    grow = omega arith;
-    copied = refl;
-    looks = omega arith;
-    codes = λ has. has;
-  };
-  touches = omega arith;
-})
+returns-then-not-fits g c =
+    let far = c.if-not-fits.ensures ∙ ap (nat_le (c.args.offset + length c.args.bytes.now)) c.allocation_usable_size.ensures in
+    rw (← c.self.view_is, c.row_of.ensures.table) (record {
+      step = rw (← c.in-Some.ensures.row, ← far) (refl, refl);
+      result = tt;
+      unknown = known c.self.inside.flex c.self.inside.rows.rows (at c.args.addr) _ (sym c.in-Some.ensures.row) (Err OutOfRange) refl;
+      refused = record { same = refl; memory = refl };
+      frame = keeps_looked_writing c.self.inside.flex c.self.inside.rows;
+      touches = omega arith;
+    })
 
 pub returns : goal.returns
-returns g c = rw (← c.self.view_is, c.row_of.ensures.table) (record {
-  step = (
-      let h = heap_of c.self.inside.flex c.self.inside.rows.rows in
-      let addr = at c.args.addr in
-      let offset = c.args.offset in
-      let bytes = c.args.bytes.now in
-      let w = c.write_at.new.payload in
-      let did = c.payload_mut.ensures in
-      let after = flex_written c.self.inside.flex addr (length c.payload_mut.result.now) w in
-      let (fills, leads) = filled c.self.inside.flex c.self.inside.rows.rows c.self.invariant.locked after addr w (did.meaning w c.write_at.ensures.len) refl in
-      let spliced =
-      subst (λ l. Fills h.flex.machine addr l after.state.machine) (c.write_at.ensures.bytes ∙ ap (λ l. splice l offset (offset + length bytes) bytes) did.value) fills in
-      writes_in h addr offset _ (sym c.in-Some.ensures.row) bytes (heap_of after c.self.inside.rows.rows)
-      (c.if-not-fits.ensures ∙ ap (nat_le (offset + length bytes)) c.allocation_usable_size.ensures) (after.state.machine, spliced, leads));
-  result = (
-      let addr = at c.args.addr in
-      let bytes = c.args.bytes.now in
-      let w = c.write_at.new.payload in
-      let did = c.payload_mut.ensures in
-      let before = heap_of c.self.inside.flex c.self.inside.rows.rows in
-      let after = heap_of (flex_written c.self.inside.flex addr (length c.payload_mut.result.now) w) c.self.inside.rows.rows in
-      record {
-        written = content_at-is after addr ∙ did.filled w c.write_at.ensures.len ∙ c.write_at.ensures.bytes
-            ∙ ap (λ l. splice l c.args.offset (c.args.offset + length bytes) bytes) (did.value ∙ sym (content_at-is before addr));
+returns g c =
+    let addr = at c.args.addr in
+    let offset = c.args.offset in
+    let bytes = c.args.bytes.now in
+    let w = c.write_at.new.payload in
+    let did = c.payload_mut.ensures in
+    let written_flex = flex_written c.self.inside.flex addr (length c.payload_mut.result.now) w in
+    let before = heap_of c.self.inside.flex c.self.inside.rows.rows in
+    let after = heap_of written_flex c.self.inside.rows.rows in
+    let near = c.if-not-fits.ensures ∙ ap (nat_le (offset + length bytes)) c.allocation_usable_size.ensures in
+    let (fills, leads) = filled c.self.inside.flex c.self.inside.rows.rows c.self.invariant.locked written_flex addr w (did.meaning w c.write_at.ensures.len) refl in
+    let spliced = c.write_at.ensures.bytes ∙ ap (λ l. splice l offset (offset + length bytes) bytes) did.value in
+    let (chunks, after_place, source, place, stands, touches, copied) = did.rest w in
+    rw (← c.self.view_is, c.row_of.ensures.table) (record {
+      step =
+          rw (← c.in-Some.ensures.row, ← near)
+          (refl, (written_flex.state.machine, subst (λ l. Fills before.flex.machine addr l written_flex.state.machine) spliced fills, leads));
+      result = record {
+        written = content_at-is after addr ∙ did.filled w c.write_at.ensures.len ∙ spliced
+            ∙ ap (λ l. splice l offset (offset + length bytes) bytes) (sym (content_at-is before addr));
         contents = λ a off. content_at-bytes before after a a (did.bytes w a off);
-      });
-  unknown = known c.self.inside.flex c.self.inside.rows.rows (at c.args.addr) _ (sym c.in-Some.ensures.row) (Ok tt) refl;
-  refused = tt;
-  frame = (
-      let w = c.write_at.new.payload in
-      let did = c.payload_mut.ensures in
-      let written_flex = flex_written c.self.inside.flex (at c.args.addr) (length c.payload_mut.result.now) w in
-      let before = heap_of c.self.inside.flex c.self.inside.rows.rows in
-      let after = heap_of written_flex c.self.inside.rows.rows in
-      let (chunks, after_place, source, place, stands, touches, copied) = did.rest w in
-      record {
+      };
+      unknown = known c.self.inside.flex c.self.inside.rows.rows addr _ (sym c.in-Some.ensures.row) (Ok tt) refl;
+      refused = tt;
+      frame = record {
         layouts = λ i a. layout_at-row before after a a refl i;
         memory = kept_alone c.self.inside.flex written_flex _ c.self.invariant.locked.flex (did.meaning w c.write_at.ensures.len) place;
-        grow = search rules;
+        grow = omega (arith, touches);
         copied = copied;
         looks = omega arith;
         codes = λ has. has;
-      });
-  touches = (
-      let (chunks, after, source, place, stands, touches, copied) = c.payload_mut.ensures.rest c.write_at.new.payload in
-      omega (arith, touches));
-})
+      };
+      touches = omega (arith, touches);
+    })
