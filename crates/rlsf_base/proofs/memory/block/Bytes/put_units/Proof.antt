@@ -25,7 +25,6 @@ use Rattle.rlsf_base.proofs.RawBlock.OwnerValues.{units_vals, units_Tells}
 use Rattle.rlsf_base.proofs.RawBlock.Values.{mark_val}
 use Rattle.rlsf_base.proofs.RawBlock.Walks.{learns}
 use Rattle.rlsf_base.specs.contracts.memory.block.Bytes as owner
-use Rattle.rlsf_base.specs.contracts.memory.block.Units as units
 use Rattle.rlsf_base.specs.contracts.memory.block.Bytes.put_units as f
 use Rattle.rlsf_base.proofs.memory.block.Bytes.put_units.Statement.{statement}
 use Rattle.rlsf_base.proofs.memory.block.Bytes.put_units.Code as code
