@@ -9,10 +9,9 @@ use Rattle.rlsf_model.specs.State.{State, usable}
 use Rattle.rlsf_model.proofs.NoMove.{unmoved_is_reallocated}
 use Rattle.rlsf_tlsf.specs.Allocator.{Allocator}
 use Rattle.rlsf_trace_text.specs.declared.op.Answer.{Answer}
-use Rattle.rlsf_trace_text.specs.declared.op.Answer.TheVariants.{Inserted, Appended, Placed, Done, Byte, Usable, Block, Trimmed, Refused}
+use Rattle.rlsf_trace_text.specs.declared.op.Answer.TheVariants.{Inserted, Appended, Placed, Done, Byte, Usable, Block, Refused}
 use Rattle.rlsf_trace_text.specs.declared.op.Op.{Op}
 use Rattle.rlsf_trace_text.specs.declared.op.Op.TheVariants.{Insert, Append, Alloc, Free, FreeUnknown, Realloc, ReallocNoMove, Fill, Put, Get, Usable as OpUsable, Block as OpBlock}
-use Rattle.rlsf_trace_text.specs.declared.op.Op.TheVariants.{Trim}
 use Rattle.rlsf_trace_runs.specs.declared.tables.Tables.{Tables}
 use Rattle.rlsf_trace_runs.specs.Events.{IsDoneBy, RunsByEvents}
 use Rattle.rlsf_trace_runs.specs.Runs.{Does, RunState}

@@ -18,10 +18,9 @@ use Rattle.rlsf_model.proofs.Chunks.{used-inserted, used-appended}
 use Rattle.rlsf_model.proofs.Fillings.{filled_holds}
 use Rattle.rlsf_model.proofs.NoMove.{unmoved_is_reallocated}
 use Rattle.rlsf_trace_text.specs.declared.op.Answer.{Answer}
-use Rattle.rlsf_trace_text.specs.declared.op.Answer.TheVariants.{Inserted, Appended, Placed, Done, Byte, Usable, Block, Trimmed, Refused}
+use Rattle.rlsf_trace_text.specs.declared.op.Answer.TheVariants.{Inserted, Appended, Placed, Done, Byte, Usable, Block, Refused}
 use Rattle.rlsf_trace_text.specs.declared.op.Op.{Op}
 use Rattle.rlsf_trace_text.specs.declared.op.Op.TheVariants.{Insert, Append, Alloc, Free, FreeUnknown, Realloc, ReallocNoMove, Fill, Put, Get, Usable as OpUsable, Block as OpBlock}
-use Rattle.rlsf_trace_text.specs.declared.op.Op.TheVariants.{Trim}
 use Rattle.rlsf_trace_runs.specs.Runs.{Does, FreesName, RunState, with_name, without_name}
 use Rattle.rlsf_trace_runs.proofs.NamedPayloads.{reallocation_refused}
 use Rattle.rlsf_trace_runs.specs.Moments.{name_in, usable_bytes}

@@ -5,12 +5,11 @@ use Rattle.rlsf_base.specs.declared.memory.range.Range.{Range}
 use Rattle.rlsf_base.specs.Range.{end_of, LiesIn}
 use Rattle.rlsf_model.specs.Insert.{IsVacant}
 use Rattle.rlsf_trace_text.specs.declared.op.Answer.{Answer}
-use Rattle.rlsf_trace_text.specs.declared.op.Answer.TheVariants.{Inserted, Appended, Placed, Done, Byte, Usable, Block, Trimmed, Refused}
+use Rattle.rlsf_trace_text.specs.declared.op.Answer.TheVariants.{Inserted, Appended, Block, Refused}
 use Rattle.rlsf_trace_text.specs.declared.op.Op.{Op}
-use Rattle.rlsf_trace_text.specs.declared.op.Op.TheVariants.{Insert, Append, Alloc, Free, FreeUnknown, Realloc, ReallocNoMove, Fill, Put, Get, Usable as OpUsable, Block as OpBlock}
-use Rattle.rlsf_trace_text.specs.declared.op.Op.TheVariants.{Trim}
+use Rattle.rlsf_trace_text.specs.declared.op.Op.TheVariants.{Insert, Append, Block as OpBlock}
 use Rattle.rlsf_trace_text.specs.declared.op.TraceError.{TraceError}
-use Rattle.rlsf_trace_text.specs.declared.op.TraceError.TheVariants.{UnknownName, NameTaken, BadRange, BadOffset, BadLayout, NotForFlex, NotForTlsf}
+use Rattle.rlsf_trace_text.specs.declared.op.TraceError.TheVariants.{BadRange}
 use Rattle.rlsf_trace_runs.specs.Runs.{Does, IsOpRefused, RunsOps, RunState}
 use Rattle.rlsf_trace_runs.specs.Parts.{CoversOp, HasRange, HasRanges}
 
