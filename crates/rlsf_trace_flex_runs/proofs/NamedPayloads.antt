@@ -103,13 +103,9 @@ module _ {S : Type 0} {fllen sllen : ℕ} {terms : S → Terms} {owes : S → Li
     -- an op on a range is refused
     pub not_on_ranges : (op : Op) → ((r : Range) × (op ≡ Insert r)) ⊎ (((r : Range) × (op ≡ Append r)) ⊎ ((r : Range) × (index : ℕ) × (op ≡ OpBlock r index)))
         → LeadsOn fllen sllen terms owes leads v table op (Refused NotForFlex) v table
-    not_on_ranges op (inl (r, is)) =
-        subst (λ o. LeadsOn fllen sllen terms owes leads v table o (Refused NotForFlex) v table) (sym is) (LeadsOn-nothing (Insert r) (Refused NotForFlex) refl (refl, refl, refl))
-    not_on_ranges op (inr (inl (r, is))) =
-        subst (λ o. LeadsOn fllen sllen terms owes leads v table o (Refused NotForFlex) v table) (sym is) (LeadsOn-nothing (Append r) (Refused NotForFlex) refl (refl, refl, refl))
-    not_on_ranges op (inr (inr (r, index, is))) =
-        subst (λ o. LeadsOn fllen sllen terms owes leads v table o (Refused NotForFlex) v table) (sym is)
-        (LeadsOn-nothing (OpBlock r index) (Refused NotForFlex) refl (refl, refl, refl))
+    not_on_ranges op (inl (r, is)) = rw is (LeadsOn-nothing (Insert r) (Refused NotForFlex) refl (refl, refl, refl))
+    not_on_ranges op (inr (inl (r, is))) = rw is (LeadsOn-nothing (Append r) (Refused NotForFlex) refl (refl, refl, refl))
+    not_on_ranges op (inr (inr (r, index, is))) = rw is (LeadsOn-nothing (OpBlock r index) (Refused NotForFlex) refl (refl, refl, refl))
 
     module _ {w : FlexContents S} (source : w.source ≡ v.source) (place : SamePlace v.memory w.memory) where
       -- an op that leads by a step that asks the source nothing to names whose payloads the new table has

@@ -9,10 +9,9 @@ use Rattle.rlsf_model.specs.State.{State, usable}
 use Rattle.rlsf_model.proofs.NoMove.{unmoved_is_reallocated}
 use Rattle.rlsf_tlsf.specs.Allocator.{Allocator}
 use Rattle.rlsf_trace_text.specs.declared.op.Answer.{Answer}
-use Rattle.rlsf_trace_text.specs.declared.op.Answer.TheVariants.{Inserted, Appended, Placed, Done, Byte, Usable, Block, Trimmed, Refused}
+use Rattle.rlsf_trace_text.specs.declared.op.Answer.TheVariants.{Inserted, Appended, Placed, Done, Byte, Usable, Block, Refused}
 use Rattle.rlsf_trace_text.specs.declared.op.Op.{Op}
 use Rattle.rlsf_trace_text.specs.declared.op.Op.TheVariants.{Insert, Append, Alloc, Free, FreeUnknown, Realloc, ReallocNoMove, Fill, Put, Get, Usable as OpUsable, Block as OpBlock}
-use Rattle.rlsf_trace_text.specs.declared.op.Op.TheVariants.{Trim}
 use Rattle.rlsf_trace_runs.specs.declared.tables.Tables.{Tables}
 use Rattle.rlsf_trace_runs.specs.Events.{IsDoneBy, RunsByEvents}
 use Rattle.rlsf_trace_runs.specs.Runs.{Does, RunState}
@@ -48,18 +47,7 @@ module _ {fllen sllen : ℕ} {v : Allocator} {tables : Tables} {s : RunState} (a
   pub made : (op : Op) (answer : Answer) (t : RunState) → Does fllen sllen (range_of v.memory) s op answer t
       → Makes fllen sllen (range_of v.memory) s.machine op answer t.machine
   made (Insert r) (Refused error) t (_, is) = not_called refl is
-  made (Append r) (Refused error) t (_, is) = not_called refl is
-  made (Alloc name layout) (Refused error) t (_, is) = not_called refl is
-  made (Free name) (Refused error) t (_, is) = not_called refl is
-  made (FreeUnknown name) (Refused error) t (_, is) = not_called refl is
-  made (Realloc name size) (Refused error) t (_, is) = not_called refl is
-  made (ReallocNoMove name size) (Refused error) t (_, is) = not_called refl is
-  made (Fill name byte) (Refused error) t (_, is) = not_called refl is
-  made (Put name offset byte) (Refused error) t (_, is) = not_called refl is
-  made (Get name offset) (Refused error) t (_, is) = not_called refl is
-  made (OpUsable name) (Refused error) t (_, is) = not_called refl is
-  made (OpBlock r index) (Refused error) t (_, is) = not_called refl is
-  made Trim (Refused error) t (_, is) = not_called refl is
+  made op (Refused error) t (_, is) = not_called refl is
   made (Insert r) (Inserted len) t (may, machine, step, is) = call_made (insert r (reply len)) refl (λ bad. bad) (IsFresh-MayInsert at r may) step is refl
   made (Append r) (Appended more) t (may, machine, step, is) = call_made (append r more) refl (λ bad. bad) (IsNext-MayAppend at r may) step is refl
   made (Alloc name layout) (Placed addr) t (_, machine, step, is) = call_made (allocate layout.size layout.align (reply addr)) refl (λ bad. bad) layout.valid.aligned step is refl
@@ -80,95 +68,4 @@ module _ {fllen sllen : ℕ} {v : Allocator} {tables : Tables} {s : RunState} (a
   made (Get name offset) (Byte byte) t (_, _, _, _, is) = not_called refl is
   made (OpUsable name) (Usable bytes) t (_, _, _, is) = not_called refl is
   made (OpBlock r index) (Block block) t (_, _, _, _, is) = not_called refl is
-  made (Insert r) (Appended more) t step = absurd step
-  made (Insert r) (Placed addr) t step = absurd step
-  made (Insert r) Done t step = absurd step
-  made (Insert r) (Byte read) t step = absurd step
-  made (Insert r) (Usable bytes) t step = absurd step
-  made (Insert r) (Block block) t step = absurd step
-  made (Insert r) (Trimmed count) t step = absurd step
-  made (Append r) (Inserted len) t step = absurd step
-  made (Append r) (Placed addr) t step = absurd step
-  made (Append r) Done t step = absurd step
-  made (Append r) (Byte read) t step = absurd step
-  made (Append r) (Usable bytes) t step = absurd step
-  made (Append r) (Block block) t step = absurd step
-  made (Append r) (Trimmed count) t step = absurd step
-  made (Alloc name layout) (Inserted len) t step = absurd step
-  made (Alloc name layout) (Appended more) t step = absurd step
-  made (Alloc name layout) Done t step = absurd step
-  made (Alloc name layout) (Byte read) t step = absurd step
-  made (Alloc name layout) (Usable bytes) t step = absurd step
-  made (Alloc name layout) (Block block) t step = absurd step
-  made (Alloc name layout) (Trimmed count) t step = absurd step
-  made (Free name) (Inserted len) t step = absurd step
-  made (Free name) (Appended more) t step = absurd step
-  made (Free name) (Placed addr) t step = absurd step
-  made (Free name) (Byte read) t step = absurd step
-  made (Free name) (Usable bytes) t step = absurd step
-  made (Free name) (Block block) t step = absurd step
-  made (Free name) (Trimmed count) t step = absurd step
-  made (FreeUnknown name) (Inserted len) t step = absurd step
-  made (FreeUnknown name) (Appended more) t step = absurd step
-  made (FreeUnknown name) (Placed addr) t step = absurd step
-  made (FreeUnknown name) (Byte read) t step = absurd step
-  made (FreeUnknown name) (Usable bytes) t step = absurd step
-  made (FreeUnknown name) (Block block) t step = absurd step
-  made (FreeUnknown name) (Trimmed count) t step = absurd step
-  made (Realloc name size) (Inserted len) t step = absurd step
-  made (Realloc name size) (Appended more) t step = absurd step
-  made (Realloc name size) Done t step = absurd step
-  made (Realloc name size) (Byte read) t step = absurd step
-  made (Realloc name size) (Usable bytes) t step = absurd step
-  made (Realloc name size) (Block block) t step = absurd step
-  made (Realloc name size) (Trimmed count) t step = absurd step
-  made (ReallocNoMove name size) (Inserted len) t step = absurd step
-  made (ReallocNoMove name size) (Appended more) t step = absurd step
-  made (ReallocNoMove name size) Done t step = absurd step
-  made (ReallocNoMove name size) (Byte read) t step = absurd step
-  made (ReallocNoMove name size) (Usable bytes) t step = absurd step
-  made (ReallocNoMove name size) (Block block) t step = absurd step
-  made (ReallocNoMove name size) (Trimmed count) t step = absurd step
-  made (Fill name byte) (Inserted len) t step = absurd step
-  made (Fill name byte) (Appended more) t step = absurd step
-  made (Fill name byte) (Placed addr) t step = absurd step
-  made (Fill name byte) (Byte read) t step = absurd step
-  made (Fill name byte) (Usable bytes) t step = absurd step
-  made (Fill name byte) (Block block) t step = absurd step
-  made (Fill name byte) (Trimmed count) t step = absurd step
-  made (Put name offset byte) (Inserted len) t step = absurd step
-  made (Put name offset byte) (Appended more) t step = absurd step
-  made (Put name offset byte) (Placed addr) t step = absurd step
-  made (Put name offset byte) (Byte read) t step = absurd step
-  made (Put name offset byte) (Usable bytes) t step = absurd step
-  made (Put name offset byte) (Block block) t step = absurd step
-  made (Put name offset byte) (Trimmed count) t step = absurd step
-  made (Get name offset) (Inserted len) t step = absurd step
-  made (Get name offset) (Appended more) t step = absurd step
-  made (Get name offset) (Placed addr) t step = absurd step
-  made (Get name offset) Done t step = absurd step
-  made (Get name offset) (Usable bytes) t step = absurd step
-  made (Get name offset) (Block block) t step = absurd step
-  made (Get name offset) (Trimmed count) t step = absurd step
-  made (OpUsable name) (Inserted len) t step = absurd step
-  made (OpUsable name) (Appended more) t step = absurd step
-  made (OpUsable name) (Placed addr) t step = absurd step
-  made (OpUsable name) Done t step = absurd step
-  made (OpUsable name) (Byte read) t step = absurd step
-  made (OpUsable name) (Block block) t step = absurd step
-  made (OpUsable name) (Trimmed count) t step = absurd step
-  made (OpBlock r index) (Inserted len) t step = absurd step
-  made (OpBlock r index) (Appended more) t step = absurd step
-  made (OpBlock r index) (Placed addr) t step = absurd step
-  made (OpBlock r index) Done t step = absurd step
-  made (OpBlock r index) (Byte read) t step = absurd step
-  made (OpBlock r index) (Usable bytes) t step = absurd step
-  made (OpBlock r index) (Trimmed count) t step = absurd step
-  made Trim (Inserted len) t step = absurd step
-  made Trim (Appended more) t step = absurd step
-  made Trim (Placed addr) t step = absurd step
-  made Trim Done t step = absurd step
-  made Trim (Byte read) t step = absurd step
-  made Trim (Usable bytes) t step = absurd step
-  made Trim (Block block) t step = absurd step
-  made Trim (Trimmed count) t step = absurd step
+  made op answer t step = absurd step

@@ -18,10 +18,9 @@ use Rattle.rlsf_model.proofs.Chunks.{used-inserted, used-appended}
 use Rattle.rlsf_model.proofs.Fillings.{filled_holds}
 use Rattle.rlsf_model.proofs.NoMove.{unmoved_is_reallocated}
 use Rattle.rlsf_trace_text.specs.declared.op.Answer.{Answer}
-use Rattle.rlsf_trace_text.specs.declared.op.Answer.TheVariants.{Inserted, Appended, Placed, Done, Byte, Usable, Block, Trimmed, Refused}
+use Rattle.rlsf_trace_text.specs.declared.op.Answer.TheVariants.{Inserted, Appended, Placed, Done, Byte, Usable, Block, Refused}
 use Rattle.rlsf_trace_text.specs.declared.op.Op.{Op}
 use Rattle.rlsf_trace_text.specs.declared.op.Op.TheVariants.{Insert, Append, Alloc, Free, FreeUnknown, Realloc, ReallocNoMove, Fill, Put, Get, Usable as OpUsable, Block as OpBlock}
-use Rattle.rlsf_trace_text.specs.declared.op.Op.TheVariants.{Trim}
 use Rattle.rlsf_trace_runs.specs.Runs.{Does, FreesName, RunState, with_name, without_name}
 use Rattle.rlsf_trace_runs.proofs.NamedPayloads.{reallocation_refused}
 use Rattle.rlsf_trace_runs.specs.Moments.{name_in, usable_bytes}
@@ -143,18 +142,7 @@ module _ {fllen sllen : ℕ} {memory : Range} (f : Used → ℕ) (blind : IsBlin
   pub balanced : (op : Op) (answer : Answer) → Does fllen sllen memory s op answer t → (x y : ℕ) → Weighs f s (name_in op) x → Weighs f t (name_in op) y
       → Balance t.machine x y
   balanced (Insert r) (Refused error) (_, is) x y wx wy = still (Insert r) is x y wx wy
-  balanced (Append r) (Refused error) (_, is) x y wx wy = still (Append r) is x y wx wy
-  balanced (Alloc name layout) (Refused error) (_, is) x y wx wy = still (Alloc name layout) is x y wx wy
-  balanced (Free name) (Refused error) (_, is) x y wx wy = still (Free name) is x y wx wy
-  balanced (FreeUnknown name) (Refused error) (_, is) x y wx wy = still (FreeUnknown name) is x y wx wy
-  balanced (Realloc name size) (Refused error) (_, is) x y wx wy = still (Realloc name size) is x y wx wy
-  balanced (ReallocNoMove name size) (Refused error) (_, is) x y wx wy = still (ReallocNoMove name size) is x y wx wy
-  balanced (Fill name byte) (Refused error) (_, is) x y wx wy = still (Fill name byte) is x y wx wy
-  balanced (Put name offset byte) (Refused error) (_, is) x y wx wy = still (Put name offset byte) is x y wx wy
-  balanced (Get name offset) (Refused error) (_, is) x y wx wy = still (Get name offset) is x y wx wy
-  balanced (OpUsable name) (Refused error) (_, is) x y wx wy = still (OpUsable name) is x y wx wy
-  balanced (OpBlock r index) (Refused error) (_, is) x y wx wy = still (OpBlock r index) is x y wx wy
-  balanced Trim (Refused error) (_, is) x y wx wy = still Trim is x y wx wy
+  balanced op (Refused error) (_, is) x y wx wy = still op is x y wx wy
   balanced (Insert r) (Inserted len) (_, m, step, is) x y wx wy = given m x y (used-inserted fllen s.machine m r (reply len) step) (ap (λ (q : RunState). q.machine) is) wx wy
   balanced (Append r) (Appended more) (_, m, step, is) x y wx wy = given m x y (used-appended fllen s.machine m r more step) (ap (λ (q : RunState). q.machine) is) wx wy
   balanced (Alloc name layout) (Placed None) (_, m, step, is) x y wx wy = stayed m s.pools name x y step.1 is wx wy
@@ -176,98 +164,7 @@ module _ {fllen sllen : ℕ} {memory : Range} (f : Used → ℕ) (blind : IsBlin
   balanced (Get name offset) (Byte read) (_, _, _, _, is) x y wx wy = still (Get name offset) is x y wx wy
   balanced (OpUsable name) (Usable bytes) (_, _, _, is) x y wx wy = still (OpUsable name) is x y wx wy
   balanced (OpBlock r index) (Block block) (_, _, _, _, is) x y wx wy = still (OpBlock r index) is x y wx wy
-  balanced (Insert r) (Appended more) step x y wx wy = absurd step
-  balanced (Insert r) (Placed addr) step x y wx wy = absurd step
-  balanced (Insert r) Done step x y wx wy = absurd step
-  balanced (Insert r) (Byte read) step x y wx wy = absurd step
-  balanced (Insert r) (Usable bytes) step x y wx wy = absurd step
-  balanced (Insert r) (Block block) step x y wx wy = absurd step
-  balanced (Insert r) (Trimmed count) step x y wx wy = absurd step
-  balanced (Append r) (Inserted len) step x y wx wy = absurd step
-  balanced (Append r) (Placed addr) step x y wx wy = absurd step
-  balanced (Append r) Done step x y wx wy = absurd step
-  balanced (Append r) (Byte read) step x y wx wy = absurd step
-  balanced (Append r) (Usable bytes) step x y wx wy = absurd step
-  balanced (Append r) (Block block) step x y wx wy = absurd step
-  balanced (Append r) (Trimmed count) step x y wx wy = absurd step
-  balanced (Alloc name layout) (Inserted len) step x y wx wy = absurd step
-  balanced (Alloc name layout) (Appended more) step x y wx wy = absurd step
-  balanced (Alloc name layout) Done step x y wx wy = absurd step
-  balanced (Alloc name layout) (Byte read) step x y wx wy = absurd step
-  balanced (Alloc name layout) (Usable bytes) step x y wx wy = absurd step
-  balanced (Alloc name layout) (Block block) step x y wx wy = absurd step
-  balanced (Alloc name layout) (Trimmed count) step x y wx wy = absurd step
-  balanced (Free name) (Inserted len) step x y wx wy = absurd step
-  balanced (Free name) (Appended more) step x y wx wy = absurd step
-  balanced (Free name) (Placed addr) step x y wx wy = absurd step
-  balanced (Free name) (Byte read) step x y wx wy = absurd step
-  balanced (Free name) (Usable bytes) step x y wx wy = absurd step
-  balanced (Free name) (Block block) step x y wx wy = absurd step
-  balanced (Free name) (Trimmed count) step x y wx wy = absurd step
-  balanced (FreeUnknown name) (Inserted len) step x y wx wy = absurd step
-  balanced (FreeUnknown name) (Appended more) step x y wx wy = absurd step
-  balanced (FreeUnknown name) (Placed addr) step x y wx wy = absurd step
-  balanced (FreeUnknown name) (Byte read) step x y wx wy = absurd step
-  balanced (FreeUnknown name) (Usable bytes) step x y wx wy = absurd step
-  balanced (FreeUnknown name) (Block block) step x y wx wy = absurd step
-  balanced (FreeUnknown name) (Trimmed count) step x y wx wy = absurd step
-  balanced (Realloc name size) (Inserted len) step x y wx wy = absurd step
-  balanced (Realloc name size) (Appended more) step x y wx wy = absurd step
-  balanced (Realloc name size) Done step x y wx wy = absurd step
-  balanced (Realloc name size) (Byte read) step x y wx wy = absurd step
-  balanced (Realloc name size) (Usable bytes) step x y wx wy = absurd step
-  balanced (Realloc name size) (Block block) step x y wx wy = absurd step
-  balanced (Realloc name size) (Trimmed count) step x y wx wy = absurd step
-  balanced (ReallocNoMove name size) (Inserted len) step x y wx wy = absurd step
-  balanced (ReallocNoMove name size) (Appended more) step x y wx wy = absurd step
-  balanced (ReallocNoMove name size) Done step x y wx wy = absurd step
-  balanced (ReallocNoMove name size) (Byte read) step x y wx wy = absurd step
-  balanced (ReallocNoMove name size) (Usable bytes) step x y wx wy = absurd step
-  balanced (ReallocNoMove name size) (Block block) step x y wx wy = absurd step
-  balanced (ReallocNoMove name size) (Trimmed count) step x y wx wy = absurd step
-  balanced (Fill name byte) (Inserted len) step x y wx wy = absurd step
-  balanced (Fill name byte) (Appended more) step x y wx wy = absurd step
-  balanced (Fill name byte) (Placed addr) step x y wx wy = absurd step
-  balanced (Fill name byte) (Byte read) step x y wx wy = absurd step
-  balanced (Fill name byte) (Usable bytes) step x y wx wy = absurd step
-  balanced (Fill name byte) (Block block) step x y wx wy = absurd step
-  balanced (Fill name byte) (Trimmed count) step x y wx wy = absurd step
-  balanced (Put name offset byte) (Inserted len) step x y wx wy = absurd step
-  balanced (Put name offset byte) (Appended more) step x y wx wy = absurd step
-  balanced (Put name offset byte) (Placed addr) step x y wx wy = absurd step
-  balanced (Put name offset byte) (Byte read) step x y wx wy = absurd step
-  balanced (Put name offset byte) (Usable bytes) step x y wx wy = absurd step
-  balanced (Put name offset byte) (Block block) step x y wx wy = absurd step
-  balanced (Put name offset byte) (Trimmed count) step x y wx wy = absurd step
-  balanced (Get name offset) (Inserted len) step x y wx wy = absurd step
-  balanced (Get name offset) (Appended more) step x y wx wy = absurd step
-  balanced (Get name offset) (Placed addr) step x y wx wy = absurd step
-  balanced (Get name offset) Done step x y wx wy = absurd step
-  balanced (Get name offset) (Usable bytes) step x y wx wy = absurd step
-  balanced (Get name offset) (Block block) step x y wx wy = absurd step
-  balanced (Get name offset) (Trimmed count) step x y wx wy = absurd step
-  balanced (OpUsable name) (Inserted len) step x y wx wy = absurd step
-  balanced (OpUsable name) (Appended more) step x y wx wy = absurd step
-  balanced (OpUsable name) (Placed addr) step x y wx wy = absurd step
-  balanced (OpUsable name) Done step x y wx wy = absurd step
-  balanced (OpUsable name) (Byte read) step x y wx wy = absurd step
-  balanced (OpUsable name) (Block block) step x y wx wy = absurd step
-  balanced (OpUsable name) (Trimmed count) step x y wx wy = absurd step
-  balanced (OpBlock r index) (Inserted len) step x y wx wy = absurd step
-  balanced (OpBlock r index) (Appended more) step x y wx wy = absurd step
-  balanced (OpBlock r index) (Placed addr) step x y wx wy = absurd step
-  balanced (OpBlock r index) Done step x y wx wy = absurd step
-  balanced (OpBlock r index) (Byte read) step x y wx wy = absurd step
-  balanced (OpBlock r index) (Usable bytes) step x y wx wy = absurd step
-  balanced (OpBlock r index) (Trimmed count) step x y wx wy = absurd step
-  balanced Trim (Inserted len) step x y wx wy = absurd step
-  balanced Trim (Appended more) step x y wx wy = absurd step
-  balanced Trim (Placed addr) step x y wx wy = absurd step
-  balanced Trim Done step x y wx wy = absurd step
-  balanced Trim (Byte read) step x y wx wy = absurd step
-  balanced Trim (Usable bytes) step x y wx wy = absurd step
-  balanced Trim (Block block) step x y wx wy = absurd step
-  balanced Trim (Trimmed count) step x y wx wy = absurd step
+  balanced op answer step x y wx wy = absurd step
 
 -- ---- the moment of a payload, by two measures
 

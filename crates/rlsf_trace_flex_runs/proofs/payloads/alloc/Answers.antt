@@ -1,11 +1,6 @@
 use Rattle.std.proofs.Common.{IsSome, arith, refl, sym, ◌∙◌, subst}
-use Rattle.rlsf_trace_flex_runs.specs.FlexRuns.{without_source}
-use Rattle.rlsf_trace_flex_runs.specs.Steps.Names.{run_of}
 use Rattle.rlsf_trace_runs.specs.Names.{address}
 use Rattle.rlsf_trace_runs.proofs.NamedPayloads.{none_is, some_is}
-use Rattle.rlsf_trace_text.specs.declared.op.Answer.TheVariants.{Refused}
-use Rattle.rlsf_trace_text.specs.declared.op.Op.TheVariants.{Alloc}
-use Rattle.rlsf_trace_text.specs.declared.op.TraceError.TheVariants.{NameTaken}
 use Rattle.rlsf_trace_flex_runs.proofs.NamedPayloads.{LeadsOn-nothing}
 use Rattle.rlsf_trace_flex_runs.proofs.PlacedPayloads.{allocated, not_allocated, of_ok}
 use Rattle.rlsf_trace_flex_runs.proofs.payloads.alloc.Goals as goal
@@ -15,8 +10,7 @@ returns-then-contains_key g c = record {
   does =
       let at = c.requires.state in
       let taken = subst IsSome (at.are_named.names c.args.name) (some_is address _ (sym c.contains_key.ensures ∙ c.if-contains_key.true)) in
-      LeadsOn-nothing at (Alloc c.args.name c.args.layout) (Refused NameTaken) refl
-      (refl, without_source (run_of c.args.flex.now c.args.names.now), (taken, refl), refl, refl);
+      LeadsOn-nothing at _ _ refl (refl, _, (taken, refl), refl, refl);
   room = λ ops more. omega (arith, more);
 }
 

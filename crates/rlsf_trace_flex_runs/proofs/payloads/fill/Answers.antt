@@ -5,21 +5,13 @@ use Rattle.rlsf_model.specs.Run.{Fills}
 use Rattle.rlsf_trace_runs.specs.Names.{address}
 use Rattle.rlsf_trace_runs.specs.Runs.{run_with_machine}
 use Rattle.rlsf_trace_runs.proofs.Named.{unnamed}
-use Rattle.rlsf_trace_text.specs.declared.op.Answer.TheVariants.{Refused}
 use Rattle.rlsf_trace_text.specs.declared.op.Op.TheVariants.{Fill}
-use Rattle.rlsf_trace_text.specs.declared.op.TraceError.TheVariants.{UnknownName}
 use Rattle.rlsf_trace_flex_runs.proofs.NamedPayloads.{filled, LeadsOn-nothing, owned}
 use Rattle.rlsf_trace_flex_runs.proofs.payloads.fill.Goals as goal
 
 pub returns-in_default : goal.returns-in_default
 returns-in_default g c =
-    LeadsOn-nothing c.requires (Fill c.args.name c.args.byte) (Refused UnknownName) refl (
-      refl,
-      without_source (run_of c.args.flex.now c.args.names.now),
-      (unnamed c.requires.are_named c.args.name (sym c.payload_of.ensures.value ∙ c.in_default.is), refl),
-      refl,
-      refl,
-    )
+    LeadsOn-nothing c.requires _ _ refl (refl, _, (unnamed c.requires.are_named c.args.name (sym c.payload_of.ensures.value ∙ c.in_default.is), refl), refl, refl)
 
 pub returns : goal.returns
 returns g c =

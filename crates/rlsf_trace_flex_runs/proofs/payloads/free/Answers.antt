@@ -1,12 +1,8 @@
 use Rattle.std.proofs.Common.{arith, refl, sym, ◌∙◌}
 use Rattle.std.proofs.lemmas.Bool.{false≢true}
-use Rattle.rlsf_trace_flex_runs.specs.FlexRuns.{without_source}
-use Rattle.rlsf_trace_flex_runs.specs.Steps.Names.{run_of}
 use Rattle.rlsf_trace_runs.specs.Names.{address}
 use Rattle.rlsf_trace_runs.proofs.Named.{unnamed}
-use Rattle.rlsf_trace_text.specs.declared.op.Answer.TheVariants.{Refused}
 use Rattle.rlsf_trace_text.specs.declared.op.Op.TheVariants.{Free, FreeUnknown}
-use Rattle.rlsf_trace_text.specs.declared.op.TraceError.TheVariants.{UnknownName}
 use Rattle.rlsf_trace_flex_runs.proofs.NamedPayloads.{freed, LeadsOn-nothing}
 use Rattle.rlsf_trace_flex_runs.proofs.payloads.free.Goals as goal
 
@@ -14,12 +10,10 @@ pub returns-in_default : goal.returns-in_default
 returns-in_default g c = record {
   told = λ _.
       let none = sym c.payload_of.ensures.value ∙ c.in_default.is in
-      LeadsOn-nothing c.requires (Free c.args.name) (Refused UnknownName) refl
-      (refl, without_source (run_of c.args.flex.now c.args.names.now), (unnamed c.requires.are_named c.args.name none, refl), refl, refl);
+      LeadsOn-nothing c.requires _ _ refl (refl, _, (unnamed c.requires.are_named c.args.name none, refl), refl, refl);
   untold = λ _.
       let none = sym c.payload_of.ensures.value ∙ c.in_default.is in
-      LeadsOn-nothing c.requires (FreeUnknown c.args.name) (Refused UnknownName) refl
-      (refl, without_source (run_of c.args.flex.now c.args.names.now), (unnamed c.requires.are_named c.args.name none, refl), refl, refl);
+      LeadsOn-nothing c.requires _ _ refl (refl, _, (unnamed c.requires.are_named c.args.name none, refl), refl, refl);
   room = λ ops more. omega (arith, more);
 }
 

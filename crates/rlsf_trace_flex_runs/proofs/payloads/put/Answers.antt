@@ -6,32 +6,19 @@ use Rattle.rlsf_model.specs.Run.{Fills}
 use Rattle.rlsf_trace_runs.specs.Names.{address}
 use Rattle.rlsf_trace_runs.specs.Runs.{run_with_machine}
 use Rattle.rlsf_trace_runs.proofs.Named.{unnamed}
-use Rattle.rlsf_trace_text.specs.declared.op.Answer.TheVariants.{Refused}
 use Rattle.rlsf_trace_text.specs.declared.op.Op.TheVariants.{Put}
-use Rattle.rlsf_trace_text.specs.declared.op.TraceError.TheVariants.{BadOffset, UnknownName}
 use Rattle.rlsf_trace_flex_runs.proofs.NamedPayloads.{filled, LeadsOn-nothing, owned}
 use Rattle.rlsf_trace_flex_runs.proofs.payloads.put.Goals as goal
 
 pub returns-in_default : goal.returns-in_default
 returns-in_default g c =
-    LeadsOn-nothing c.requires (Put c.args.name c.args.offset c.args.byte) (Refused UnknownName) refl (
-      refl,
-      without_source (run_of c.args.flex.now c.args.names.now),
-      (unnamed c.requires.are_named c.args.name (sym c.payload_of.ensures.value ∙ c.in_default.is), refl),
-      refl,
-      refl,
-    )
+    LeadsOn-nothing c.requires _ _ refl (refl, _, (unnamed c.requires.are_named c.args.name (sym c.payload_of.ensures.value ∙ c.in_default.is), refl), refl, refl)
 
 pub returns-then-offset-allocation_usable_size : goal.returns-then-offset-allocation_usable_size
 returns-then-offset-allocation_usable_size g c =
     let (u, owns, holds, its, long) = owned c.requires c.args.name c.in-Some.payload (sym c.payload_of.ensures.value ∙ c.in-Some.is) in
-    LeadsOn-nothing c.requires (Put c.args.name c.args.offset c.args.byte) (Refused BadOffset) refl (
-      refl,
-      without_source (run_of c.args.flex.now c.args.names.now),
-      ((u, owns, omega (arith, c.if-offset-allocation_usable_size.true, c.allocation_usable_size.ensures, ap length its, long)), refl),
-      refl,
-      refl,
-    )
+    LeadsOn-nothing c.requires _ _ refl
+    (refl, _, ((u, owns, omega (arith, c.if-offset-allocation_usable_size.true, c.allocation_usable_size.ensures, ap length its, long)), refl), refl, refl)
 
 pub bounds-payload_mut-offset : goal.bounds-payload_mut-offset
 bounds-payload_mut-offset g c =

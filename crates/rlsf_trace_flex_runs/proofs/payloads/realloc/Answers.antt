@@ -1,11 +1,6 @@
 use Rattle.std.proofs.Common.{arith, true≢false, refl, sym, ◌∙◌, subst}
 use Rattle.rlsf_base.specs.Layout.{IsLayout}
-use Rattle.rlsf_trace_flex_runs.specs.FlexRuns.{without_source}
-use Rattle.rlsf_trace_flex_runs.specs.Steps.Names.{run_of}
 use Rattle.rlsf_trace_runs.proofs.Named.{owned_live, unnamed}
-use Rattle.rlsf_trace_text.specs.declared.op.Answer.TheVariants.{Refused}
-use Rattle.rlsf_trace_text.specs.declared.op.Op.TheVariants.{Realloc}
-use Rattle.rlsf_trace_text.specs.declared.op.TraceError.TheVariants.{BadLayout, UnknownName}
 use Rattle.rlsf_trace_flex_runs.proofs.NamedPayloads.{LeadsOn-nothing}
 use Rattle.rlsf_trace_flex_runs.proofs.PlacedPayloads.{not_reallocated, of_ok, reallocated}
 use Rattle.rlsf_trace_flex_runs.proofs.payloads.realloc.Goals as goal
@@ -14,8 +9,7 @@ pub returns-in_default : goal.returns-in_default
 returns-in_default g c = record {
   does =
       let at = c.requires.state in
-      LeadsOn-nothing at (Realloc c.args.name c.args.size) (Refused UnknownName) refl
-      (refl, without_source (run_of c.args.flex.now c.args.names.now), (unnamed at.are_named c.args.name (sym c.payload_of.ensures.value ∙ c.in_default.is), refl), refl, refl);
+      LeadsOn-nothing at _ _ refl (refl, _, (unnamed at.are_named c.args.name (sym c.payload_of.ensures.value ∙ c.in_default.is), refl), refl, refl);
   room = λ ops more. omega (arith, more);
 }
 
@@ -24,13 +18,8 @@ returns-in_default-from_size_align g c = record {
   does =
       let at = c.requires.state in
       let (u, owns, _, aligned) = owned_live at.are_named c.args.name c.in-Some.old (sym c.payload_of.ensures.value ∙ c.in-Some.is) in
-      LeadsOn-nothing at (Realloc c.args.name c.args.size) (Refused BadLayout) refl (
-        refl,
-        without_source (run_of c.args.flex.now c.args.names.now),
-        ((u, owns, λ valid. true≢false (sym (c.in_default-from_size_align.ensures.succeeds.1 (subst (IsLayout c.args.size) aligned valid)))), refl),
-        refl,
-        refl,
-      );
+      LeadsOn-nothing at _ _ refl
+      (refl, _, ((u, owns, λ valid. true≢false (sym (c.in_default-from_size_align.ensures.succeeds.1 (subst (IsLayout c.args.size) aligned valid)))), refl), refl, refl);
   room = λ ops more. omega (arith, more);
 }
 

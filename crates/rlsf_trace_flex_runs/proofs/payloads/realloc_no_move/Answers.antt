@@ -2,37 +2,21 @@ use Rattle.std.proofs.Common.{true≢false, refl, sym, ◌∙◌, subst}
 use Rattle.rlsf_base.specs.Addr.{reply}
 use Rattle.rlsf_base.specs.Layout.{IsLayout}
 use Rattle.rlsf_flex.specs.StandsFor.{StepsAlone}
-use Rattle.rlsf_trace_flex_runs.specs.FlexRuns.{without_source}
-use Rattle.rlsf_trace_flex_runs.specs.Steps.Names.{run_of}
 use Rattle.rlsf_model.specs.NoMove.{ReallocatesWithoutMove}
 use Rattle.rlsf_trace_runs.specs.Names.{address}
 use Rattle.rlsf_trace_runs.proofs.Named.{owned_live, unnamed}
-use Rattle.rlsf_trace_text.specs.declared.op.Answer.TheVariants.{Refused}
-use Rattle.rlsf_trace_text.specs.declared.op.Op.TheVariants.{ReallocNoMove}
-use Rattle.rlsf_trace_text.specs.declared.op.TraceError.TheVariants.{BadLayout, UnknownName}
 use Rattle.rlsf_trace_flex_runs.proofs.NamedPayloads.{LeadsOn-nothing, unmoved}
 use Rattle.rlsf_trace_flex_runs.proofs.payloads.realloc_no_move.Goals as goal
 
 pub returns-in_default : goal.returns-in_default
 returns-in_default g c =
-    LeadsOn-nothing c.requires (ReallocNoMove c.args.name c.args.size) (Refused UnknownName) refl (
-      refl,
-      without_source (run_of c.args.flex.now c.args.names.now),
-      (unnamed c.requires.are_named c.args.name (sym c.payload_of.ensures.value ∙ c.in_default.is), refl),
-      refl,
-      refl,
-    )
+    LeadsOn-nothing c.requires _ _ refl (refl, _, (unnamed c.requires.are_named c.args.name (sym c.payload_of.ensures.value ∙ c.in_default.is), refl), refl, refl)
 
 pub returns-in_default-from_size_align : goal.returns-in_default-from_size_align
 returns-in_default-from_size_align g c =
     let (u, owns, _, aligned) = owned_live c.requires.are_named c.args.name c.in-Some.payload (sym c.payload_of.ensures.value ∙ c.in-Some.is) in
-    LeadsOn-nothing c.requires (ReallocNoMove c.args.name c.args.size) (Refused BadLayout) refl (
-      refl,
-      without_source (run_of c.args.flex.now c.args.names.now),
-      ((u, owns, λ valid. true≢false (sym (c.in_default-from_size_align.ensures.succeeds.1 (subst (IsLayout c.args.size) aligned valid)))), refl),
-      refl,
-      refl,
-    )
+    LeadsOn-nothing c.requires _ _ refl
+    (refl, _, ((u, owns, λ valid. true≢false (sym (c.in_default-from_size_align.ensures.succeeds.1 (subst (IsLayout c.args.size) aligned valid)))), refl), refl, refl)
 
 pub returns : goal.returns
 returns g c =

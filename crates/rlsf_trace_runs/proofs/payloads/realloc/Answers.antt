@@ -1,15 +1,10 @@
-use Rattle.std.proofs.Common.{◌≡◌, Some, None, refl, ap, sym, ◌∙◌, subst, rules, true≢false}
+use Rattle.std.proofs.Common.{Some, None, refl, ap, sym, ◌∙◌, subst, rules, true≢false}
 use Rattle.std.specs.Int.NonZero.{non_zero_usize_get}
-use Rattle.rlsf_base.specs.Addr.{reply}
 use Rattle.rlsf_base.specs.Layout.{IsLayout}
 use Rattle.rlsf_model.specs.Reallocate.{Reallocates}
-use Rattle.rlsf_model.specs.State.{State, Used}
 use Rattle.rlsf_model.proofs.Chunks.{chunks-reallocated}
-use Rattle.rlsf_blocks.specs.Spare.{KeepsSpare}
 use Rattle.rlsf_tlsf.proofs.Standing.{stepped}
 use Rattle.rlsf_trace_runs.specs.Names.{address}
-use Rattle.rlsf_trace_runs.specs.Runs.{Owns, RunState, with_name}
-use Rattle.rlsf_trace_runs.specs.Steps.Tables.{IsAt}
 use Rattle.rlsf_trace_runs.proofs.Named.{AreNamed-reallocated, owned_live, unnamed}
 use Rattle.rlsf_trace_runs.proofs.NamedPayloads.{IsAt-named, IsAt-unmoved, reallocation_refused, LeadsOn-nothing, room_left}
 use Rattle.rlsf_trace_text.specs.declared.op.Answer.TheVariants.{Refused}
@@ -56,22 +51,14 @@ pub returns-in_default-placed : goal.returns-in_default-placed
 returns-in_default-placed g c = record {
   does = λ s at.
       let p = c.in-Some.old in
-      let there = sym c.payload_of.ensures.value ∙ c.in-Some.is in
       let (size, _) = c.in-Ok.ensures.layout in
       let (t, moved, stands, keeps) =
-      stepped at.stands c.reallocate-placed.new.self (λ x. Reallocates g.row.SLLEN x (address p) c.in-Ok.layout.size (reply c.reallocate-placed.result))
-      c.reallocate-placed.ensures.step in
-      let none : reply c.reallocate-placed.result ≡ None = ap reply c.in_default-placed.is in
-      let step =
-      subst (λ o. Reallocates g.row.SLLEN s.machine (address p) c.args.size o t) none
-      (subst (λ n. Reallocates g.row.SLLEN s.machine (address p) n (reply c.reallocate-placed.result) t) size moved) in
-      let (u, owns, holds, its) = owned_live at.named c.args.name p there in
+      stepped at.stands c.reallocate-placed.new.self (λ x. Reallocates g.row.SLLEN x (address p) c.in-Ok.layout.size None)
+      (rw c.in_default-placed.is at c.reallocate-placed.ensures.step) in
+      let step = subst (λ n. Reallocates g.row.SLLEN s.machine (address p) n None t) size moved in
+      let (u, owns, holds, its) = owned_live at.named c.args.name p (sym c.payload_of.ensures.value ∙ c.in-Some.is) in
       let valid = subst (IsLayout c.args.size) (sym its) (c.in-Ok.ensures.succeeds.0 refl) in
-      subst (λ o. (x : RunState)
-      × ((v : Used) × Owns s c.args.name v × IsLayout c.args.size v.align × (machine : State) × Reallocates g.row.SLLEN s.machine v.payload c.args.size o machine
-      × (x ≡ record { machine = machine; named = with_name c.args.name o s.named; pools = s.pools }))
-      × IsAt g.row.FLLEN g.row.SLLEN c.reallocate-placed.new.self c.args.tables.now x × KeepsSpare c.args.tlsf.now.memory s.machine c.reallocate-placed.new.self.memory x.machine)
-      (sym none) (
+      rw c.in_default-placed.is (
         _,
         (u, owns, valid, t, subst (λ a. Reallocates g.row.SLLEN s.machine a c.args.size None t) (sym holds.1) step, refl),
         IsAt-unmoved at c.reallocate-placed.ensures.frame.place t stands (reallocation_refused g.row.SLLEN s.machine t (address p) c.args.size step),

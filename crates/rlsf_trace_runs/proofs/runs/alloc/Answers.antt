@@ -1,17 +1,12 @@
-use Rattle.std.proofs.Common.{rules, ◌≡◌, Some, None, IsSome, refl, ap, sym, ◌∙◌, subst}
+use Rattle.std.proofs.Common.{rules, Some, None, IsSome, refl, sym, ◌∙◌, subst}
 use Rattle.std.specs.Int.NonZero.{non_zero_usize_get}
-use Rattle.rlsf_base.specs.Addr.{reply}
 use Rattle.rlsf_model.specs.Allocate.{Allocates}
-use Rattle.rlsf_model.specs.State.{State}
 use Rattle.rlsf_model.proofs.Chunks.{chunks-allocated}
-use Rattle.rlsf_blocks.specs.Spare.{KeepsSpare}
 use Rattle.rlsf_trace_text.specs.declared.op.Answer.TheVariants.{Refused}
 use Rattle.rlsf_trace_text.specs.declared.op.Op.TheVariants.{Alloc}
 use Rattle.rlsf_trace_text.specs.declared.op.TraceError.TheVariants.{NameTaken}
 use Rattle.rlsf_tlsf.proofs.Standing.{stepped}
 use Rattle.rlsf_trace_runs.specs.Names.{address}
-use Rattle.rlsf_trace_runs.specs.Runs.{RunState, with_name}
-use Rattle.rlsf_trace_runs.specs.Steps.Tables.{IsAt}
 use Rattle.rlsf_trace_runs.proofs.Named.{AreNamed-allocated, unnamed}
 use Rattle.rlsf_trace_runs.proofs.NamedPayloads.{IsAt-named, IsAt-unmoved, LeadsOn-nothing, none_is, room_left, some_is}
 use Rattle.rlsf_trace_runs.proofs.runs.alloc.Goals as goal
@@ -41,15 +36,9 @@ returns-in_default g c = record {
   does = λ s at.
       let layout = c.args.layout in
       let (t, step, stands, keeps) =
-      stepped at.stands c.allocate-placed.new.self (λ x. Allocates g.row.SLLEN x layout.size layout.align (reply c.allocate-placed.result)) c.allocate-placed.ensures.step in
+      stepped at.stands c.allocate-placed.new.self (λ x. Allocates g.row.SLLEN x layout.size layout.align None) (rw c.in_default.is at c.allocate-placed.ensures.step) in
       let free = unnamed at.named c.args.name (none_is _ (sym c.contains_key.ensures ∙ c.if-contains_key.false)) in
-      let none : reply c.allocate-placed.result ≡ None = ap reply c.in_default.is in
-      let refused = subst (λ o. Allocates g.row.SLLEN s.machine layout.size layout.align o t) none step in
-      subst (λ o. (x : RunState) × ((s.named c.args.name ≡ None) × (machine : State) × Allocates g.row.SLLEN s.machine c.args.layout.size c.args.layout.align o machine
-      × (x ≡ record { machine = machine; named = with_name c.args.name o s.named; pools = s.pools }))
-      × IsAt g.row.FLLEN g.row.SLLEN c.allocate-placed.new.self c.args.tables.now x × KeepsSpare c.args.tlsf.now.memory s.machine c.allocate-placed.new.self.memory x.machine)
-      (sym none)
-      (_, (free, t, refused, refl), IsAt-unmoved at c.allocate-placed.ensures.frame.place t stands refused.1, keeps);
+      rw c.in_default.is (_, (free, t, step, refl), IsAt-unmoved at c.allocate-placed.ensures.frame.place t stands step.1, keeps);
   room = room_left c.args.tables.now;
   place = search rules;
 }

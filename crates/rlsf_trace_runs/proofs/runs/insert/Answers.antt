@@ -1,18 +1,14 @@
-use Rattle.std.proofs.Common.{rules, ◌≡◌, ◌+◌, Some, None, true≢false, arith, refl, sym, ◌∙◌, ap, subst}
+use Rattle.std.proofs.Common.{rules, ◌≡◌, ◌+◌, Some, None, true≢false, arith, refl, sym, ◌∙◌, subst}
 use Rattle.std.specs.Int.NonZero.{non_zero_usize_get}
-use Rattle.rlsf_base.specs.Addr.{reply}
 use Rattle.rlsf_base.specs.Rounding.{round32}
 use Rattle.rlsf_base.specs.Space.{range_of}
 use Rattle.rlsf_model.specs.Insert.{Inserts, IsFresh}
-use Rattle.rlsf_model.specs.State.{State, between}
+use Rattle.rlsf_model.specs.State.{between}
 use Rattle.rlsf_model.proofs.Untouched.{parts_of-IsFresh}
 use Rattle.rlsf_trace_text.specs.declared.op.Answer.TheVariants.{Refused}
 use Rattle.rlsf_trace_text.specs.declared.op.Op.TheVariants.{Insert}
 use Rattle.rlsf_trace_text.specs.declared.op.TraceError.TheVariants.{BadRange}
-use Rattle.rlsf_blocks.specs.Spare.{KeepsSpare}
 use Rattle.rlsf_tlsf.proofs.Standing.{of_state, stepped}
-use Rattle.rlsf_trace_runs.specs.Runs.{MayInsert, RunState, with_new_pool}
-use Rattle.rlsf_trace_runs.specs.Steps.Tables.{IsAt}
 use Rattle.rlsf_trace_runs.proofs.NewPools.{pool_bounds}
 use Rattle.rlsf_trace_runs.proofs.NamedPayloads.{LeadsOn-nothing, room_left}
 use Rattle.rlsf_trace_runs.proofs.RunStates.{IsAt-inserted, IsAt-not_inserted, IsFresh-MayInsert, IsVacant-tables, MayInsert-tested}
@@ -70,15 +66,8 @@ returns-in_default g c = record {
   does = λ s at.
       let may = MayInsert-tested at c.args.range refl (c.may_insert.ensures.vacant.0 c.if-not-may_insert.false) in
       let (t, step, stands, keeps) =
-      stepped at.stands c.insert_free_block_ptr-taken.new.self (λ x. Inserts g.row.FLLEN x c.args.range (reply c.insert_free_block_ptr-taken.result))
-      c.insert_free_block_ptr-taken.ensures.step in
-      let none : reply c.insert_free_block_ptr-taken.result ≡ None = ap reply c.in_default.is in
-      let refused = subst (λ o. Inserts g.row.FLLEN s.machine c.args.range o t) none step in
-      subst (λ o. (x : RunState) × (MayInsert (range_of c.args.tlsf.now.memory) s.pools c.args.range × (machine : State) × Inserts g.row.FLLEN s.machine c.args.range o machine
-      × (x ≡ record { machine = machine; named = s.named; pools = with_new_pool c.args.range o s.pools }))
-      × IsAt g.row.FLLEN g.row.SLLEN c.insert_free_block_ptr-taken.new.self c.args.tables.now x
-      × KeepsSpare c.args.tlsf.now.memory s.machine c.insert_free_block_ptr-taken.new.self.memory x.machine) (sym none)
-      (_, (may, t, refused, refl), IsAt-not_inserted at c.insert_free_block_ptr-taken.ensures.frame.place t stands c.args.range refused, keeps);
+      stepped at.stands c.insert_free_block_ptr-taken.new.self (λ x. Inserts g.row.FLLEN x c.args.range None) (rw c.in_default.is at c.insert_free_block_ptr-taken.ensures.step) in
+      rw c.in_default.is (_, (may, t, step, refl), IsAt-not_inserted at c.insert_free_block_ptr-taken.ensures.frame.place t stands c.args.range step, keeps);
   room = room_left c.args.tables.now;
   place = search rules;
 }

@@ -1,6 +1,4 @@
-use Rattle.std.proofs.Common.{refl, sym, subst}
-use Rattle.rlsf_trace_runs.specs.Runs.{RunState}
-use Rattle.rlsf_trace_runs.specs.Steps.Tables.{IsAt, OpLeadsOn}
+use Rattle.std.proofs.Common.{refl}
 use Rattle.rlsf_trace_text.specs.declared.op.Answer.TheVariants.{Refused}
 use Rattle.rlsf_trace_text.specs.declared.op.Op.TheVariants.{Trim}
 use Rattle.rlsf_trace_text.specs.declared.op.TraceError.TheVariants.{NotForTlsf}
@@ -9,129 +7,91 @@ use Rattle.rlsf_trace_runs.proofs.runs.step.Goals as goal
 
 pub returns-in-Insert : goal.returns-in-Insert
 returns-in-Insert g c = record {
-  does =
-      subst (λ op. (s : RunState) → IsAt g.row.FLLEN g.row.SLLEN c.args.tlsf.now c.args.tables.now s
-      → OpLeadsOn g.row.FLLEN g.row.SLLEN c.args.tlsf.now s op c.insert.result c.insert.new.tlsf c.insert.new.tables)
-      (sym c.in-Insert.is) c.insert.ensures.does;
+  does = rw c.in-Insert.is c.insert.ensures.does;
   room = c.insert.ensures.room;
   place = c.insert.ensures.place;
 }
 
 pub returns-in-Append : goal.returns-in-Append
 returns-in-Append g c = record {
-  does =
-      subst (λ op. (s : RunState) → IsAt g.row.FLLEN g.row.SLLEN c.args.tlsf.now c.args.tables.now s
-      → OpLeadsOn g.row.FLLEN g.row.SLLEN c.args.tlsf.now s op c.append.result c.append.new.tlsf c.append.new.tables)
-      (sym c.in-Append.is) c.append.ensures.does;
+  does = rw c.in-Append.is c.append.ensures.does;
   room = c.append.ensures.room;
   place = c.append.ensures.place;
 }
 
 pub returns-in-Alloc : goal.returns-in-Alloc
 returns-in-Alloc g c = record {
-  does =
-      subst (λ op. (s : RunState) → IsAt g.row.FLLEN g.row.SLLEN c.args.tlsf.now c.args.tables.now s
-      → OpLeadsOn g.row.FLLEN g.row.SLLEN c.args.tlsf.now s op c.alloc.result c.alloc.new.tlsf c.alloc.new.tables)
-      (sym c.in-Alloc.is) c.alloc.ensures.does;
+  does = rw c.in-Alloc.is c.alloc.ensures.does;
   room = c.alloc.ensures.room;
   place = c.alloc.ensures.place;
 }
 
 pub returns-in-Free : goal.returns-in-Free
 returns-in-Free g c = record {
-  does =
-      subst (λ op. (s : RunState) → IsAt g.row.FLLEN g.row.SLLEN c.args.tlsf.now c.args.tables.now s
-      → OpLeadsOn g.row.FLLEN g.row.SLLEN c.args.tlsf.now s op c.free.result c.free.new.tlsf c.free.new.tables)
-      (sym c.in-Free.is) c.free.ensures.does;
+  does = rw c.in-Free.is c.free.ensures.does;
   room = c.free.ensures.room;
   place = c.free.ensures.place;
 }
 
 pub returns-in-FreeUnknown : goal.returns-in-FreeUnknown
 returns-in-FreeUnknown g c = record {
-  does =
-      subst (λ op. (s : RunState) → IsAt g.row.FLLEN g.row.SLLEN c.args.tlsf.now c.args.tables.now s
-      → OpLeadsOn g.row.FLLEN g.row.SLLEN c.args.tlsf.now s op c.free_unknown.result c.free_unknown.new.tlsf c.free_unknown.new.tables)
-      (sym c.in-FreeUnknown.is) c.free_unknown.ensures.does;
+  does = rw c.in-FreeUnknown.is c.free_unknown.ensures.does;
   room = c.free_unknown.ensures.room;
   place = c.free_unknown.ensures.place;
 }
 
 pub returns-in-Realloc : goal.returns-in-Realloc
 returns-in-Realloc g c = record {
-  does =
-      subst (λ op. (s : RunState) → IsAt g.row.FLLEN g.row.SLLEN c.args.tlsf.now c.args.tables.now s
-      → OpLeadsOn g.row.FLLEN g.row.SLLEN c.args.tlsf.now s op c.realloc.result c.realloc.new.tlsf c.realloc.new.tables)
-      (sym c.in-Realloc.is) c.realloc.ensures.does;
+  does = rw c.in-Realloc.is c.realloc.ensures.does;
   room = c.realloc.ensures.room;
   place = c.realloc.ensures.place;
 }
 
 pub returns-in-ReallocNoMove : goal.returns-in-ReallocNoMove
 returns-in-ReallocNoMove g c = record {
-  does =
-      subst (λ op. (s : RunState) → IsAt g.row.FLLEN g.row.SLLEN c.args.tlsf.now c.args.tables.now s
-      → OpLeadsOn g.row.FLLEN g.row.SLLEN c.args.tlsf.now s op c.realloc_no_move.result c.realloc_no_move.new.tlsf c.args.tables.now)
-      (sym c.in-ReallocNoMove.is) c.realloc_no_move.ensures.does;
+  does = rw c.in-ReallocNoMove.is c.realloc_no_move.ensures.does;
   room = room_left c.args.tables.now;
   place = c.realloc_no_move.ensures.place;
 }
 
 pub returns-in-Fill : goal.returns-in-Fill
 returns-in-Fill g c = record {
-  does =
-      subst (λ op. (s : RunState) → IsAt g.row.FLLEN g.row.SLLEN c.args.tlsf.now c.args.tables.now s
-      → OpLeadsOn g.row.FLLEN g.row.SLLEN c.args.tlsf.now s op c.fill.result c.fill.new.tlsf c.args.tables.now)
-      (sym c.in-Fill.is) c.fill.ensures.does;
+  does = rw c.in-Fill.is c.fill.ensures.does;
   room = room_left c.args.tables.now;
   place = c.fill.ensures.place;
 }
 
 pub returns-in-Put : goal.returns-in-Put
 returns-in-Put g c = record {
-  does =
-      subst (λ op. (s : RunState) → IsAt g.row.FLLEN g.row.SLLEN c.args.tlsf.now c.args.tables.now s
-      → OpLeadsOn g.row.FLLEN g.row.SLLEN c.args.tlsf.now s op c.put.result c.put.new.tlsf c.args.tables.now)
-      (sym c.in-Put.is) c.put.ensures.does;
+  does = rw c.in-Put.is c.put.ensures.does;
   room = room_left c.args.tables.now;
   place = c.put.ensures.place;
 }
 
 pub returns-in-Get : goal.returns-in-Get
 returns-in-Get g c = record {
-  does =
-      subst (λ op. (s : RunState) → IsAt g.row.FLLEN g.row.SLLEN c.args.tlsf.now c.args.tables.now s
-      → OpLeadsOn g.row.FLLEN g.row.SLLEN c.args.tlsf.now s op c.get.result c.args.tlsf.now c.args.tables.now)
-      (sym c.in-Get.is) c.get.ensures;
+  does = rw c.in-Get.is c.get.ensures;
   room = room_left c.args.tables.now;
   place = (refl, refl, refl, λ none. none);
 }
 
 pub returns-in-Usable : goal.returns-in-Usable
 returns-in-Usable g c = record {
-  does =
-      subst (λ op. (s : RunState) → IsAt g.row.FLLEN g.row.SLLEN c.args.tlsf.now c.args.tables.now s
-      → OpLeadsOn g.row.FLLEN g.row.SLLEN c.args.tlsf.now s op c.usable.result c.args.tlsf.now c.args.tables.now)
-      (sym c.in-Usable.is) c.usable.ensures;
+  does = rw c.in-Usable.is c.usable.ensures;
   room = room_left c.args.tables.now;
   place = (refl, refl, refl, λ none. none);
 }
 
 pub returns-in-Block : goal.returns-in-Block
 returns-in-Block g c = record {
-  does =
-      subst (λ op. (s : RunState) → IsAt g.row.FLLEN g.row.SLLEN c.args.tlsf.now c.args.tables.now s
-      → OpLeadsOn g.row.FLLEN g.row.SLLEN c.args.tlsf.now s op c.block.result c.args.tlsf.now c.args.tables.now)
-      (sym c.in-Block.is) c.block.ensures;
+  does = rw c.in-Block.is c.block.ensures;
   room = room_left c.args.tables.now;
   place = (refl, refl, refl, λ none. none);
 }
 
 pub returns-in-Trim : goal.returns-in-Trim
 returns-in-Trim g c = record {
-  does = λ s at.
-      subst (λ op. OpLeadsOn g.row.FLLEN g.row.SLLEN c.args.tlsf.now s op (Refused NotForTlsf) c.args.tlsf.now c.args.tables.now) (sym c.in-Trim.is)
-      (LeadsOn-nothing at Trim (Refused NotForTlsf) (tt, refl));
+  does = λ s at. rw c.in-Trim.is (LeadsOn-nothing at Trim (Refused NotForTlsf) (tt, refl));
   room = room_left c.args.tables.now;
   place = (refl, refl, refl, λ none. none);
 }
