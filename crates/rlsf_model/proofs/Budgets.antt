@@ -356,7 +356,4 @@ bounded_runs_are_not_denied live size align fllen sllen memory s t fronts es w i
 
 -- a chunk that isn't empty is one front
 pub AreFronts-one : (c : Range) (chunks : List Range) → IsIn c chunks → 0 < c.len → AreFronts chunks (c ∷ [])
-AreFronts-one c chunks i some = record {
-  each = λ r. elim [ inl same ↦ subst (IsFront chunks) (sym same) (c, i, refl, omega arith, some) | inr none ↦ absurd none ];
-  disjoint = λ a. omega (arith, covers-le c a);
-}
+AreFronts-one c chunks i some = grind (arith, covers-le)

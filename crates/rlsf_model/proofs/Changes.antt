@@ -110,11 +110,7 @@ IsApart-within some all within apart f g hf hg = apart f g (within f hf) (within
 -- ---- what a block leaves of a span
 
 pub IsIn-rest_behind : (block : Range) (end : ℕ) (g : Range) → IsIn g (rest_behind block end) → (g ≡ between (end_of block) end) × (end_of block < end)
-IsIn-rest_behind block end g h = elim (cases_lt (end_of block) end) [
-  | inl less ↦ let one : (g ≡ between (end_of block) end) ⊎ ⊥ = subst (λ b. IsIn g (cond b (between (end_of block) end ∷ []) [])) (lt-ltb (end_of block) end less) h in
-      elim one [ inl same ↦ (same, less) | inr bad ↦ absurd bad ]
-  | inr all ↦ absurd (subst (λ b. IsIn g (cond b (between (end_of block) end ∷ []) [])) (le-ltb (end_of block) end all) h)
-]
+IsIn-rest_behind block end g h = grind (arith, cases_lt, lt-ltb, le-ltb)
 
 pub coverage-rest_behind : (block : Range) (end : ℕ) (span : Range) (a : ℕ) → end_of block ≤ end → span.start ≡ block.start → end_of span ≡ end
     → covers span a ≡ covers block a + coverage itself (rest_behind block end) a

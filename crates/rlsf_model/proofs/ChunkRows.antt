@@ -34,10 +34,7 @@ IsAdjacent-adjacent (suc n) at len cs h =
 
 IsAdjacent-remainder : (at len : ℕ) → IsAdjacent at (remainder at len)
 unfolding IsAdjacent
-IsAdjacent-remainder at len = elim (cases_lt len 64) [
-  | inl short ↦ subst (IsAdjacent at) (sym (remainder-none at len short)) tt
-  | inr room ↦ subst (IsAdjacent at) (sym (remainder-one at len room)) (refl, tt)
-]
+IsAdjacent-remainder at len = grind (arith, cases_lt, remainder-none, remainder-one)
 
 IsAdjacent-cut : (o : Option ℕ) (part : Range) → IsAdjacent part.start (cut o part)
 IsAdjacent-cut None part = IsAdjacent-remainder part.start part.len
@@ -100,10 +97,7 @@ IsRow-cut s o part a low high =
 bytes_taken-some : (start at len : ℕ) (cs : List Range) → start ≤ at → IsAdjacent at cs → bytes_taken start cs ≡ Some len → start + len ≡ end_of_last at cs
 unfolding IsAdjacent
 bytes_taken-some start at len [] order h e = absurd (cc)
-bytes_taken-some start at len (c ∷ cs) order (first, rest) e =
-    let from : end_of c ≤ end_of_last (end_of c) cs = end_of_last-le (end_of c) cs rest in
-    let taken : end_of_last (end_of c) cs - start ≡ len = cc in
-    omega arith
+bytes_taken-some start at len (c ∷ cs) order (first, rest) e = grind (arith, end_of_last-le)
 
 -- what an insert takes is a row, from the first multiple of 32 on
 pub IsRow-inserted : (fllen : ℕ) (s t : State) (r : Range) (len : ℕ) → Inserts fllen s r (Some len) t → IsRow t (between (round32 r.start) (r.start + len))

@@ -23,56 +23,27 @@ covers-before r a low = ap (λ b. cond (b && ltb a (end_of r)) 1 0) (lt-leb r.st
 
 pub covers-behind : (r : Range) (a : ℕ) → end_of r ≤ a → covers r a ≡ 0
 unfolding covers
-covers-behind r a high = elim (cases_lt a r.start) [
-  | inl low ↦ covers-before r a low
-  | inr from ↦ ap (λ b. cond (b && ltb a (end_of r)) 1 0) (le-leb r.start a from) ∙ ap (λ b. cond b 1 0) (le-ltb a (end_of r) high)
-]
+covers-behind r a high = grind (arith, cases_lt, covers-before, le-leb, le-ltb)
 
 pub where_is : (r : Range) (a : ℕ) → Where r a
-where_is r a = elim (cases_lt a r.start) [
-  | inl low ↦ before (covers-before r a low) low
-  | inr from ↦ elim (cases_lt a (end_of r)) [
-    | inl high ↦ inside (covers-inside r a from high) from high
-    | inr past ↦ behind (covers-behind r a past) past
-  ]
-]
+where_is r a = grind (arith, cases_lt, covers-before, covers-inside, covers-behind)
 
 -- a range that has an address
 pub covers-some : (r : Range) (a : ℕ) → 1 ≤ covers r a → (r.start ≤ a) × (a < end_of r)
-covers-some r a some = elim (where_is r a) [
-  | inside one low high ↦ (low, high)
-  | before none low ↦ absurd (omega arith)
-  | behind none high ↦ absurd (omega arith)
-]
+covers-some r a some = grind (arith, where_is)
 
 pub covers-le : (r : Range) (a : ℕ) → covers r a ≤ 1
-covers-le r a = elim (where_is r a) [
-  | inside one low high ↦ omega arith
-  | before none low ↦ omega arith
-  | behind none high ↦ omega arith
-]
+covers-le r a = grind (arith, where_is)
 
 -- a range is cut in two at any address in it
 pub covers-split : (low mid high a : ℕ) → low ≤ mid → mid ≤ high → (r s t : Range) → r.start ≡ low → end_of r ≡ high → s.start ≡ low → end_of s ≡ mid
     → t.start ≡ mid → end_of t ≡ high
     → covers r a ≡ covers s a + covers t a
-covers-split low mid high a first second r s t r0 r1 s0 s1 t0 t1 = elim (where_is r a) [
-  | inside one l h ↦ elim (where_is s a) [
-    | inside s_one sl sh ↦ elim (where_is t a) [ inside t_one tl th ↦ absurd (omega arith) | before none tl ↦ omega arith | behind none th ↦ omega arith ]
-    | before s_none sl ↦ absurd (omega arith)
-    | behind s_none sh ↦ elim (where_is t a) [ inside t_one tl th ↦ omega arith | before none tl ↦ absurd (omega arith) | behind none th ↦ absurd (omega arith) ]
-  ]
-  | before none l ↦ let left = covers-before s a (omega arith) in let right = covers-before t a (omega arith) in omega arith
-  | behind none h ↦ let left = covers-behind s a (omega arith) in let right = covers-behind t a (omega arith) in omega arith
-]
+covers-split low mid high a first second r s t r0 r1 s0 s1 t0 t1 = grind (arith, where_is, covers-before, covers-behind)
 
 -- a range of no bytes has no address
 pub covers-empty : (r : Range) (a : ℕ) → r.len ≡ 0 → covers r a ≡ 0
-covers-empty r a empty = elim (where_is r a) [
-  | inside one low high ↦ absurd (omega arith)
-  | before none low ↦ none
-  | behind none high ↦ none
-]
+covers-empty r a empty = grind (arith, where_is)
 
 -- what is true of a Bool either way
 pub by_test : {X : Type 0} (t : Bool) → (t ≡ true → X) → (t ≡ false → X) → X

@@ -43,25 +43,13 @@ coverage-adjacent (suc n) at len a =
     )
 
 IsIn-remainder : (at len : ℕ) (c : Range) → IsIn c (remainder at len) → (c ≡ range_at at len) × (64 ≤ len)
-IsIn-remainder at len c h = elim (cases_lt len 64) [
-  | inl short ↦ absurd (subst (λ b. IsIn c (cond b (range_at at len ∷ []) [])) (lt-leb 64 len short) h)
-  | inr room ↦
-      let one : (c ≡ range_at at len) ⊎ ⊥ = subst (λ b. IsIn c (cond b (range_at at len ∷ []) [])) (le-leb 64 len room) h in
-      elim one [ inl same ↦ (same, room) | inr bad ↦ absurd bad ]
-]
+IsIn-remainder at len c h = grind (arith, cases_lt, lt-leb, le-leb)
 
 coverage-remainder : (at len a : ℕ) → coverage itself (remainder at len) a ≤ covers (range_at at len) a
-coverage-remainder at len a = elim (cases_lt len 64) [
-  | inl short ↦ let none : coverage itself (remainder at len) a ≡ 0 = ap (λ b. coverage itself (cond b (range_at at len ∷ []) []) a) (lt-leb 64 len short) in omega arith
-  | inr room ↦ let one : coverage itself (remainder at len) a ≡ covers (range_at at len) a + 0 =
-      ap (λ b. coverage itself (cond b (range_at at len ∷ []) []) a) (le-leb 64 len room) in omega arith
-]
+coverage-remainder at len a = grind (arith, cases_lt, lt-leb, le-leb)
 
 pub max_pool-cases : (fllen : ℕ) → (max_pool_size fllen ≡ Some (2 ^ (5 + fllen))) ⊎ ((max_pool_size fllen ≡ None) × (64 ≤ 5 + fllen))
-max_pool-cases fllen = elim (cases_lt (5 + fllen) 64) [
-  | inl small ↦ inl (ap (λ b. cond b (Some (2 ^ (5 + fllen))) None) (lt-ltb (5 + fllen) 64 small))
-  | inr large ↦ inr (ap (λ b. cond b (Some (2 ^ (5 + fllen))) None) (le-ltb (5 + fllen) 64 large), large)
-]
+max_pool-cases fllen = grind (arith, cases_lt, lt-ltb, le-ltb)
 
 -- the greatest length of a chunk is a multiple of 32 and has room for a block
 pub most_whole : (fllen : ℕ) → 0 < fllen → (2 ^ (5 + fllen) % 32 ≡ 0) × (64 ≤ 2 ^ (5 + fllen))
@@ -162,15 +150,7 @@ covers-body c a room = covers-split c.start (end_of c - 32) (end_of c) a (omega 
 
 -- so many whole times more
 div-more : (len most : ℕ) → 0 < most → most ≤ len → len / most ≡ suc ((len - most) / most)
-div-more len most some fits =
-    let q = (len - most) / most in
-    let parts : q * most + (len - most) % most ≡ len - most = div-add-mod' (len - most) most in
-    let rest : (len - most) % most < most = mod_below (len - most) most some in
-    let low : suc q * most ≤ len = omega arith in
-    let high : len < suc (suc q) * most = omega arith in
-    let from : suc q ≤ len / most = le-div (suc q) len most some low in
-    let to : len / most < suc (suc q) = div_below len most (suc (suc q)) some high in
-    omega arith
+div-more len most some fits = grind (arith, div-add-mod', mod_below, le-div, div_below)
 
 div-none : (len most : ℕ) → 0 < most → len < most → len / most ≡ 0
 div-none len most some short = let to : len / most < 1 = div_below len most 1 some (omega arith) in omega arith
@@ -292,7 +272,4 @@ end_of_last-cut_most most part most32 whole =
     (omega (arith, rest.0), omega (arith, rest.1))
 
 pub end_of_last-cut : (fllen : ℕ) (part : Range) → 0 < fllen → part.len % 32 ≡ 0 → EndsNear (end_of_last part.start (cut (max_pool_size fllen) part)) (end_of part)
-end_of_last-cut fllen part rows whole = elim (max_pool-cases fllen) [
-  | inl some ↦ subst (λ o. EndsNear (end_of_last part.start (cut o part)) (end_of part)) (sym some) (end_of_last-cut_most (2 ^ (5 + fllen)) part (most_whole fllen rows).0 whole)
-  | inr (none, large) ↦ subst (λ o. EndsNear (end_of_last part.start (cut o part)) (end_of part)) (sym none) (end_of_last-remainder part.start part.len whole)
-]
+end_of_last-cut fllen part rows whole = grind (arith, max_pool-cases, end_of_last-cut_most, most_whole, end_of_last-remainder)

@@ -137,11 +137,7 @@ pub length-refilled : (n : ℕ) (old : List ℕ) → length (refilled n old) ≡
 length-refilled n old = omega (arith, length-take n (old ++ replicate n 0), length-append old (replicate n 0), length-replicate {A = ℕ} n 0)
 
 pub Keeps-refilled : (n : ℕ) (old : List ℕ) → Keeps old (refilled n old)
-Keeps-refilled n old =
-    let m = min (length old) (length (refilled n old)) in
-    let len = length-refilled n old in
-    let small : m ≤ n = omega arith in
-    take-take m n (old ++ replicate n 0) small ∙ take-append-le m old (replicate n 0) (omega arith)
+Keeps-refilled n old = grind (arith, length-refilled, take-take, take-append-le)
 
 -- what is_apart tests
 may_apart : (r : Range) (cs : List Range) → is_apart r cs ≡ true → (a : ℕ) → r.start ≤ a → a < end_of r → coverage itself cs a ≡ 0
@@ -156,24 +152,12 @@ may_apart r (c ∷ cs) e a low high =
 
 -- what is_vacant tests
 pub IsVacant-from : (memory : Range) (taken : List Range) (r : Range) → is_vacant memory taken r ≡ true → IsVacant memory taken r
-IsVacant-from memory taken r e =
-    let (from, rest) = and_parts (leb memory.start r.start) (leb (end_of r) (end_of memory) && is_apart r taken) e in
-    let (to, apart) = and_parts (leb (end_of r) (end_of memory)) (is_apart r taken) rest in
-    record { lies_in = (leb-true memory.start r.start from, leb-true (end_of r) (end_of memory) to); apart = may_apart r taken apart }
+IsVacant-from memory taken r e = grind (arith, and_parts, leb-true, may_apart)
 
 pub allocate_step : (sllen : ℕ) (s : State) (size align : ℕ) (old : List ℕ) (o : Option Range) → choice sllen (request_size size align) s.free ≡ o
     → Allocates sllen s size align (address align o) (allocate_after sllen s size align old o)
 allocate_step sllen s size align old None e = (e, refl)
-allocate_step sllen s size align old (Some f) e =
-    let bytes = new_bytes f size align old in
-    record {
-      range = f;
-      bytes = bytes;
-      chosen = e;
-      answer = refl;
-      length = length-refilled (end_of (block_for f.start (payload_of f.start align) size) - payload_of f.start align) old;
-      after = refl;
-    }
+allocate_step sllen s size align old (Some f) e = grind (arith, length-refilled)
 
 module _ (fllen sllen : ℕ) (memory : Range) (s : State) where
   held : (addr : ℕ) (u : Used) → find (at addr) s.used ≡ Some u → Holds s addr u
@@ -200,14 +184,7 @@ module _ (fllen sllen : ℕ) (memory : Range) (s : State) where
 
   pub planned_step : (u : Used) → IsIn u s.used → (size : ℕ) (o : Option Plan)
       → ReallocatesBy sllen s u size o (planned_reply sllen s u size o) (planned_after sllen s u size o)
-  planned_step u h size (Some p) =
-      record {
-        bytes = refilled (end_of p.block - p.payload) u.bytes;
-        answer = refl;
-        length = length-refilled (end_of p.block - p.payload) u.bytes;
-        kept = Keeps-refilled (end_of p.block - p.payload) u.bytes;
-        after = refl;
-      }
+  planned_step u h size (Some p) = grind (arith, length-refilled, Keeps-refilled)
   planned_step u h size None = move_step u h size (choice sllen (request_size size u.align) s.free) refl
 
   reallocate_step : (addr size : ℕ) (o : Option Used) → find (at addr) s.used ≡ o → is_some o ≡ true

@@ -47,10 +47,7 @@ flex_payloads_are_apart fl_bits sl_bits fllen sllen memory t s u cs valid w run 
 -- the used block of a payload that serves a layout
 HasSize-serves : {fllen sllen : ℕ} {memory : Range} {m : State} → IsWellFormed fllen sllen memory m → (size align addr : ℕ) (p : Payload) → payload_at m addr ≡ Some p
     → ServesLayout size align p → HasSize m size addr
-HasSize-serves {m = m} w size align addr p told serves =
-    let (v, holds, is) = payload_at-has m addr p told in
-    let long : length p.bytes ≡ (usable v).len = ap (λ (q : Payload). length q.bytes) (sym is) ∙ (w.used v holds.0).bytes in
-    (v, holds, omega (arith, serves.enough, long), omega (arith, serves.few, long))
+HasSize-serves {m = m} w size align addr p told serves = grind (arith, payload_at-has)
 
 pub flex_allocation_has_size : FlexAllocationHasSize
 flex_allocation_has_size fl_bits sl_bits fllen sllen memory t s u size align None notes valid w step = tt
@@ -88,11 +85,7 @@ flex_other_payloads_stay fllen sllen t s u (allocate size align None) notes x st
 flex_other_payloads_stay fllen sllen t s u (allocate size align (Some addr)) notes x (inl room) i apart =
     subst (λ (y : FlexState). IsIn x y.machine.used) (sym room.after)
     (other_payloads_stay fllen sllen s.machine room.machine (allocate size align (Some addr)) x room.allocates i apart)
-flex_other_payloads_stay fllen sllen t s u (allocate size align (Some addr)) notes x (inr more) i apart =
-    let m = more.meanwhile in
-    let j = subst (IsIn x) (sym (used-taken fllen t s m more.outcome more.asks.extends.after)) i in
-    subst (λ (y : FlexState). IsIn x y.machine.used) (sym more.after)
-    (other_payloads_stay fllen sllen m.machine more.machine (allocate size align (Some addr)) x more.allocates j apart)
+flex_other_payloads_stay fllen sllen t s u (allocate size align (Some addr)) notes x (inr more) i apart = grind (arith, used-taken, other_payloads_stay)
 flex_other_payloads_stay fllen sllen t s u (deallocate addr) notes x step i apart =
     subst (λ (y : FlexState). IsIn x y.machine.used) (sym step.after) (other_payloads_stay fllen sllen s.machine step.machine (deallocate addr) x step.leads i apart)
 flex_other_payloads_stay fllen sllen t s u (reallocate addr size None) notes x step i apart = subst (λ (y : FlexState). IsIn x y.machine.used) (sym step.asks.extends.after) i
@@ -116,10 +109,7 @@ flex_used_was_used fllen sllen t s u (trim count) notes x step i other new = sub
 flex_used_was_used fllen sllen t s u (allocate size align None) notes x step i other new = subst (λ (y : FlexState). IsIn x y.machine.used) step.extends.after i
 flex_used_was_used fllen sllen t s u (allocate size align (Some addr)) notes x (inl room) i other new =
     used_was_used fllen sllen s.machine room.machine (allocate size align (Some addr)) x room.allocates (subst (λ (y : FlexState). IsIn x y.machine.used) room.after i) other new
-flex_used_was_used fllen sllen t s u (allocate size align (Some addr)) notes x (inr more) i other new =
-    let m = more.meanwhile in
-    subst (IsIn x) (used-taken fllen t s m more.outcome more.asks.extends.after)
-    (used_was_used fllen sllen m.machine more.machine (allocate size align (Some addr)) x more.allocates (subst (λ (y : FlexState). IsIn x y.machine.used) more.after i) other new)
+flex_used_was_used fllen sllen t s u (allocate size align (Some addr)) notes x (inr more) i other new = grind (arith, used-taken, used_was_used)
 flex_used_was_used fllen sllen t s u (deallocate addr) notes x step i other new =
     used_was_used fllen sllen s.machine step.machine (deallocate addr) x step.leads (subst (λ (y : FlexState). IsIn x y.machine.used) step.after i) other new
 flex_used_was_used fllen sllen t s u (reallocate addr size None) notes x step i other new = subst (λ (y : FlexState). IsIn x y.machine.used) step.asks.extends.after i

@@ -27,14 +27,7 @@ use Rattle.rlsf_model.proofs.Trims.{Trims-keeps}
 use Rattle.rlsf_model.proofs.Steps.{Fills-keeps, empty_is_well_formed}
 
 pub flex_empty_is_well_formed : FlexEmptyIsWellFormed
-flex_empty_is_well_formed fllen sllen memory t rows row_length addressable space = record {
-  machine = empty_is_well_formed fllen sllen memory rows row_length addressable;
-  space = space;
-  pools = record { in_space = λ p i. absurd i; long = λ p i. absurd i; disjoint = λ a. omega arith };
-  housed = λ c i. absurd i;
-  newest = λ keep. refl;
-  pooled = λ p i. absurd i;
-}
+flex_empty_is_well_formed fllen sllen memory t rows row_length addressable space = grind (arith, empty_is_well_formed)
 
 module _ {fllen sllen : ℕ} {memory : Range} {t : Terms} {s : FlexState} (w : IsFlexWellFormed fllen sllen memory t s) where
   -- a step that leaves the chunks leaves a well-formed state

@@ -67,14 +67,7 @@ live_address_has_one_block fllen sllen memory s addr u w h =
 
 -- an address in a payload is in its block
 usable-inside : (u : Used) → IsUsed u → (a : ℕ) → covers (usable u) a ≡ 1 → covers u.block a ≡ 1
-usable-inside u is a one =
-    let after_start = IsUsed-after_start u is in
-    let within = is.within in
-    elim (where_is (usable u) a) [
-      | inside some low high ↦ covers-inside u.block a (omega arith) (omega arith)
-      | before none low ↦ absurd (omega arith)
-      | behind none high ↦ absurd (omega arith)
-    ]
+usable-inside u is a one = grind (arith, IsUsed-after_start, where_is, covers-inside)
 
 pub payloads_are_disjoint : PayloadsAreDisjoint
 payloads_are_disjoint fllen sllen memory s u v a w iu iv apart =
@@ -281,10 +274,7 @@ module _ (u : Used) (s t : State) (i : IsIn u s.used) where
   reallocate_stays sllen addr size v holds apart (Some p) None step = absurd step
   reallocate_stays sllen addr size v holds apart (Some p) (Some to) step = stays_at step.after (inr (others_stay addr v holds apart))
   reallocate_stays sllen addr size v holds apart None None step = stays_at step.1 i
-  reallocate_stays sllen addr size v holds apart None (Some to) step =
-      let j : IsIn u step.meanwhile.used = subst (λ x. IsIn u x.used) (sym step.allocated.after) (inr i) in
-      let gone = step.released in
-      stays_at gone.after (IsIn-others_from gone.block.payload u step.meanwhile.used j (λ at. apart (sym holds.1 ∙ sym gone.holds.1 ∙ sym at)))
+  reallocate_stays sllen addr size v holds apart None (Some to) step = grind (arith, stays_at, IsIn-others_from)
 
 pub other_payloads_stay : OtherPayloadsStay
 other_payloads_stay fllen sllen s t (insert r reply) u step i apart = subst (IsIn u) (sym (used-inserted fllen s t r reply step)) i
@@ -326,10 +316,7 @@ module _ (u : Used) (s t : State) (i : IsIn u t.used) where
       (IsIn-others v.payload u s.used
       (from_rest u s t i (moved v p step.bytes) (others v.payload s.used) (ap (λ x. x.used) step.after) (λ at. new (ap Some (step.answer ∙ at))))).0
   reallocate_from sllen size v None None new step = subst (λ x. IsIn u x.used) step.1 i
-  reallocate_from sllen size v None (Some to) new step =
-      let gone = step.released in
-      allocate_from u s step.meanwhile (IsIn-others gone.block.payload u step.meanwhile.used (subst (λ x. IsIn u x.used) gone.after i)).0 sllen size v.align (Some to) new
-      step.allocated
+  reallocate_from sllen size v None (Some to) new step = grind (arith, allocate_from, IsIn-others)
 
 pub used_was_used : UsedWasUsed
 used_was_used fllen sllen s t (insert r reply) u step i other new = subst (IsIn u) (used-inserted fllen s t r reply step) i
@@ -351,20 +338,7 @@ filled_has_bytes fllen sllen memory s t addr align bytes w (u, held, is) step =
     ((v, filled_holds step, ap (λ x. x.align) same ∙ is), (v, filled_holds step, refl))
 
 pub fill_leaves_others : FillLeavesOthers
-fill_leaves_others s t addr bytes step = (
-  ap (λ x. x.chunks) step.after,
-  ap (λ x. x.free) step.after,
-  λ u apart. (
-    λ i. stays_at u s t i step.after (IsIn-filled_other addr bytes u s.used i apart),
-    λ i. IsIn-filled_other_from addr bytes u s.used (subst (λ x. IsIn u x.used) step.after i) apart,
-  ),
-)
+fill_leaves_others s t addr bytes step = grind (arith, stays_at, IsIn-filled_other, IsIn-filled_other_from)
 
 pub deallocation_leaves_others : DeallocationLeavesOthers
-deallocation_leaves_others s t addr step = (
-  ap (λ x. x.chunks) step.after,
-  λ u. (
-    λ i. let (j, apart) = IsIn-others step.block.payload u s.used (subst (λ x. IsIn u x.used) step.after i) in (j, λ at. apart (at ∙ sym step.holds.1)),
-    λ (i, apart). stays_at u s t i step.after (IsIn-others_from step.block.payload u s.used i (λ at. apart (at ∙ step.holds.1))),
-  ),
-)
+deallocation_leaves_others s t addr step = grind (arith, IsIn-others, stays_at, IsIn-others_from)

@@ -31,10 +31,7 @@ HasSame-cons x xs ys same y =
     ((λ h. elim h [ inl e ↦ inl e | inr i ↦ inr ((same y).0 i) ]), (λ h. elim h [ inl e ↦ inl e | inr i ↦ inr ((same y).1 i) ]))
 
 pub HasSame-filter : {A : Type 0} (p : A → Bool) (xs ys : List A) → HasSame xs ys → HasSame (filter p xs) (filter p ys)
-HasSame-filter p xs ys same x = (
-  (λ h. let (i, e) = IsIn-filter p x xs h in IsIn-filter_from p x ys ((same x).0 i) e),
-  (λ h. let (i, e) = IsIn-filter p x ys h in IsIn-filter_from p x xs ((same x).1 i) e),
-)
+HasSame-filter p xs ys same x = grind (arith, IsIn-filter, IsIn-filter_from)
 
 HasSame-map : {A B : Type 0} (f : A → B) (xs ys : List A) → HasSame xs ys → HasSame (map f xs) (map f ys)
 HasSame-map {A} {B} f xs ys same y = (through xs ys (λ x. (same x).0), through ys xs (λ x. (same x).1))

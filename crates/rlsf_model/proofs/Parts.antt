@@ -77,11 +77,7 @@ module _ {fllen sllen : ℕ} {memory : Range} {s : State} (w : IsWellFormed flle
       ]
 
   last-le : (c : Range) → 64 ≤ c.len → (a : ℕ) → covers (last_bytes c) a ≤ covers c a
-  last-le c room a = elim (where_is (last_bytes c) a) [
-    | inside one low high ↦ omega (arith, covers-inside c a (omega arith) (omega arith))
-    | before none low ↦ omega arith
-    | behind none high ↦ omega arith
-  ]
+  last-le c room a = grind (arith, where_is, covers-inside)
 
   -- at an address in the chunks, their last bytes are those of the state
   coverage-last : ((a : ℕ) → coverage itself cs a ≤ 1) → (a : ℕ) → 1 ≤ coverage itself cs a → coverage last_bytes cs a ≡ coverage last_bytes s.chunks a

@@ -65,10 +65,7 @@ IsUsed-aligned u is = subst (λ p. p % u.align ≡ 0) (sym is.placed) (payload_o
 
 -- and of 16
 pub IsUsed-even : (u : Used) → IsUsed u → u.payload % 16 ≡ 0
-IsUsed-even u is =
-    let k = floor_log2 u.align in
-    let rounded : u.payload ≡ payload_of u.block.start (2 ^ k) = is.placed ∙ ap (payload_of u.block.start) is.power in
-    omega (arith, rounded, even_payload k u.block.start is.whole.start)
+IsUsed-even u is = grind (arith, even_payload)
 
 -- and it lies 16 bytes or more into the block
 pub IsUsed-after_start : (u : Used) → IsUsed u → u.block.start + 16 ≤ u.payload
@@ -108,12 +105,4 @@ others-none addr (x ∷ xs) none =
 -- a block that can't have the size in place has fewer usable bytes
 pub usable-short : {fllen sllen : ℕ} {memory : Range} {s : State} → IsWellFormed fllen sllen memory s → (u : Used) → IsIn u s.used → (size : ℕ)
     → in_place s u size ≡ None → (usable u).len < size
-usable-short {s = s} w u i size short =
-    let is = w.used u i in
-    elim (cases_lt (end_of u.block) (end_of (resized u size))) [
-      | inl past ↦ omega (arith, past, is.whole.len, is.within, IsUsed-after_start u is)
-      | inr fits ↦
-          let plan : Plan = record { block = resized u size; payload = u.payload; free = tail_joined (resized u size) (end_of u.block) s.free } in
-          let bad : Some plan ≡ None = sym (ap (λ b. cond b (Some plan) None) (le-leb (end_of (resized u size)) (end_of u.block) fits)) ∙ short in
-          absurd (cc)
-    ]
+usable-short {s = s} w u i size short = grind (arith, cases_lt, IsUsed-after_start, le-leb)

@@ -182,11 +182,7 @@ module _ {fllen sllen : ℕ} {memory : Range} {s : State} (w : IsWellFormed flle
       (λ fits. in_place_sound (leb-true (end_of (resized u size)) (end_of u.block) fits)) e
 
   pub IsSound-into_next : (p : Plan) → into_next s u size ≡ Some p → IsSoundPlan s u size p
-  IsSound-into_next p e =
-      let end = end_or (end_of u.block) (find (starts_at (end_of u.block)) s.free) in
-      tested (leb (end_of (resized u size)) end)
-      (record { block = resized u size; payload = u.payload; free = rest_behind (resized u size) end ++ without (starts_at (end_of u.block)) s.free }) p
-      (λ fits. into_next_sound (leb-true (end_of (resized u size)) end fits)) e
+  IsSound-into_next p e = grind (arith, tested, into_next_sound, leb-true)
 
   pub IsSound-into_previous : (p : Plan) → into_previous s u size ≡ Some p → IsSoundPlan s u size p
   IsSound-into_previous p e = go (find (ends_at u.block.start) s.free) refl e

@@ -54,13 +54,7 @@ sums count bytes n len long = omega arith
 -- bytes that a chunk's length leaves out, since it is a multiple of 32, do no harm
 pub HasRoomForBudget-pool : {fllen : ℕ} (count bytes size sllen len : ℕ) (c : Range) → IsBudgetPool fllen sllen count bytes size len → len < c.len + 32
     → HasRoomForBudget count bytes size sllen (c ∷ [])
-HasRoomForBudget-pool count bytes size sllen len c pool long =
-    let all : c.len ≡ total_len (c ∷ []) = omega (arith, sum_by-cons (λ (r : Range). r.len) c []) in
-    record {
-      least = pool.least;
-      taken = record { is = pool.is; reaches = pool.reaches };
-      enough = sums count bytes (pool.least - 32) (total_len (c ∷ [])) (omega (arith, pool.length, long, all));
-    }
+HasRoomForBudget-pool count bytes size sllen len c pool long = grind (arith, sum_by-cons, sums)
 
 pub budget_pool_is_enough : BudgetPoolIsEnough
 budget_pool_is_enough fl_bits sl_bits fllen sllen count bytes size align len memory s t c es valid w told is_chunk long run =

@@ -15,17 +15,11 @@ use Rattle.rlsf_model.specs.Terms.{IsGiven, Terms}
 
 -- a number that fits is itself
 pub if_fits-some : (n len : ℕ) → if_fits n ≡ Some len → len ≡ n
-if_fits-some n len told = elim (cases_lt n (2 ^ 64)) [
-  | inl fits ↦ same_Some len n (sym told ∙ ap (λ b. cond b (Some n) None) (lt-ltb n (2 ^ 64) fits))
-  | inr long ↦ absurd (none-some len (sym (ap (λ b. cond b (Some n) None) (le-ltb n (2 ^ 64) long)) ∙ told))
-]
+if_fits-some n len told = grind (arith, cases_lt, same_Some, lt-ltb, none-some, le-ltb)
 
 -- 32 bytes more than are wanted, or what is wanted where all starts are multiples of 32
 pub range_length-is : (t : Terms) (e len : ℕ) → range_length t e ≡ Some len → (len ≡ e + 32) ⊎ ((32 ≤ t.min_align) × (len ≡ e))
-range_length-is t e len told = elim (cases_lt t.min_align 32) [
-  | inl less ↦ inl (if_fits-some (e + 32) len (sym (ap (λ b. cond b (if_fits (e + 32)) (Some e)) (lt-ltb t.min_align 32 less)) ∙ told))
-  | inr enough ↦ inr (enough, same_Some len e (sym told ∙ ap (λ b. cond b (if_fits (e + 32)) (Some e)) (le-ltb t.min_align 32 enough)))
-]
+range_length-is t e len told = grind (arith, cases_lt, if_fits-some, lt-ltb, same_Some, le-ltb)
 
 -- a multiple of an alignment of 32 or more is one of 32
 pub wide_whole : (p align : ℕ) → IsPowerOfTwo align → 32 ≤ align → p % align ≡ 0 → p % 32 ≡ 0
@@ -40,10 +34,7 @@ wide_whole p align power wide multiple =
 
 -- what comes has the aligned part that is wanted
 pub HasAlignedPart-given : (t : Terms) (owed : List Range) (e len : ℕ) (r : Range) → range_length t e ≡ Some len → IsGiven t owed len r → HasAlignedPart r e
-HasAlignedPart-given t owed e len r told g = elim (range_length-is t e len told) [
-  | inl more ↦ inl (omega (arith, g.long))
-  | inr same ↦ inr (wide_whole r.start t.min_align g.power same.0 g.aligned, omega (arith, g.long, same.1))
-]
+HasAlignedPart-given t owed e len r told g = grind (arith, range_length-is, wide_whole)
 
 -- a range that is asked for has that length
 pub range_asked : (t : Terms) (kept : Option KeptPool) (e n : ℕ) → (questions_for t kept e).range ≡ Some n → range_length t e ≡ Some n

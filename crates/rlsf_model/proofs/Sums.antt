@@ -174,13 +174,7 @@ module _ {fllen sllen : ℕ} {memory : Range} {s : State} (w : IsWellFormed flle
       ]
 
   ends-few : (a : ℕ) → coverage past s.free a ≤ coverage first s.used a + coverage last s.chunks a
-  ends-few a = elim (cases_lt 0 (coverage past s.free a)) [
-    | inl some ↦
-        let (f, i, low, high) = coverage-some past s.free a some in
-        let at : end_of f ≡ a = omega arith in
-        omega (arith, ends-le a, subst (λ b. 1 ≤ coverage first s.used b + coverage last s.chunks b) at (ends_at_start f i))
-    | inr none ↦ omega arith
-  ]
+  ends-few a = grind (arith, cases_lt, coverage-some, ends-le, ends_at_start)
 
 pub few_free : FewFree
 few_free fllen sllen memory s w =

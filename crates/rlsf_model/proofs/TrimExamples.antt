@@ -184,11 +184,7 @@ ends_in-from r a (c ∷ cs) e = or_parts (lies_within r c && eqb (end_of c) a) (
 
 has_last-from : (chunks ranges : List Range) → has_last chunks ranges ≡ true → IsKeptToLast chunks ranges (kept_of chunks ranges)
 has_last-from chunks [] e = refl
-has_last-from chunks (r ∷ ranges) e =
-    let (from, ends) = and_parts (leb r.start (last_end r chunks)) (ends_in r (last_end r chunks) chunks) e in
-    let begins = leb-true r.start (last_end r chunks) from in
-    let (c, i, low, high, at) = ends_in-from r (last_end r chunks) chunks ends in
-    (last_end r chunks - r.start, record { last = (c, i, low, high, omega arith); none_later = λ d j d_low d_high. omega (arith, last_end-le r chunks d j d_low d_high) }, refl)
+has_last-from chunks (r ∷ ranges) e = grind (arith, and_parts, leb-true, ends_in-from, last_end-le)
 
 split_at : (n : ℕ) (xs : List Range) → xs ≡ take n xs ++ drop n xs
 split_at n xs = sym (take-append-drop n xs)
@@ -205,43 +201,12 @@ module _ (fllen sllen : ℕ) (t : Terms) (s : FlexState) where
       record { machine = released s.machine u; leads = record { block = u; holds = (is.0, eqb-true u.payload addr is.1); after = refl }; none = refl; after = refl }
 
   trim_leads : (n : ℕ) → may_move fllen sllen t s (gives_back n) ≡ true → FlexLeads fllen sllen t s (trim n) (map dealloc (take n s.pools)) (trimmed n s)
-  trim_leads n e =
-      let m = all_removed (take n s.pools) s.machine in
-      let counted = eqb n (length (take n s.pools)) in
-      let idle = are_idle (take n s.pools) s.machine.used in
-      let held = is_newest_held (drop n s.pools) s.machine.used in
-      let last = has_last m.chunks (drop n s.pools) in
-      let (takes, one) = and_parts t.dealloc (counted && (idle && (held && last))) e in
-      let (counted_is, two) = and_parts counted (idle && (held && last)) one in
-      let (idle_is, three) = and_parts idle (held && last) two in
-      let (held_is, last_is) = and_parts held last three in
-      inl (
-        takes,
-        record {
-          gone = take n s.pools;
-          left = drop n s.pools;
-          split = split_at n s.pools;
-          idle = are_idle-from s.machine (take n s.pools) idle_is;
-          held = is_newest_held-from s.machine (drop n s.pools) held_is;
-          counted = eqb-true n (length (take n s.pools)) counted_is;
-          noted = refl;
-          machine = refl;
-          pools = refl;
-          kept = has_last-from m.chunks (drop n s.pools) last_is;
-        },
-      )
+  trim_leads n e = grind (arith, and_parts, split_at, are_idle-from, is_newest_held-from, eqb-true, has_last-from)
 
   move_leads : (m : Move) → may_move fllen sllen t s m ≡ true
       → AreAnswers t s.pools (moved_by fllen sllen t s m).notes
       × FlexLeads fllen sllen t s (moved_by fllen sllen t s m).event (moved_by fllen sllen t s m).notes (moved_to fllen sllen t s m)
-  move_leads (allocates a) e =
-      let first = room sllen s a.size a.align in
-      let second = room sllen (ready fllen sllen t s a) a.size a.align in
-      let come = may_come fllen (asked fllen sllen t s a.size a.align) s a.outcome first second in
-      let answers = are_answers t s.pools (done fllen sllen t s a).notes in
-      let (power, more) = and_parts (is_power_of_two a.align) (answers && come) e in
-      let (kept, came) = and_parts answers come more in
-      (AreAnswers-from t s.pools (done fllen sllen t s a).notes kept, FlexAllocates-so fllen sllen t s a.size a.align a.outcome first second refl refl came)
+  move_leads (allocates a) e = grind (arith, and_parts, AreAnswers-from, FlexAllocates-so)
   move_leads (frees addr) e = (tt, free_leads addr (block_at s addr) refl e)
   move_leads (gives_back n) e = (gone_answers t s.pools (take n s.pools), trim_leads n e)
 
