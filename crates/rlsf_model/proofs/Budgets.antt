@@ -30,6 +30,7 @@ use Rattle.rlsf_model.proofs.Payloads.{payload_of-le, block_length-request}
 use Rattle.rlsf_model.proofs.Plans.{IsSoundPlan, IsSound-plan}
 use Rattle.rlsf_model.proofs.Steps.{steps_keep_well_formed}
 use Rattle.rlsf_model.proofs.Sums.{bytes_add_up, taken_free}
+use Rattle.rlsf_model.proofs.UsedBlocks.{Goes, IsGivenAlign, as_before, in_turn, one_filled, one_less, one_more, step_goes}
 
 -- ---- one call
 
@@ -261,59 +262,36 @@ pub AreAligned : ℕ → List Used → Type 0
 AreAligned most used = (u : Used) → IsIn u used → u.align ≤ most
 
 module _ (most : ℕ) where
-  aligned_by : {t r : State} → t ≡ r → AreAligned most r.used → AreAligned most t.used
-  aligned_by is = subst (λ x. AreAligned most x.used) (sym is)
-
-  aligned_cons : (v : Used) (used : List Used) → v.align ≤ most → AreAligned most used → AreAligned most (v ∷ used)
+  pub aligned_none : (used : List Used) → used ≡ [] → AreAligned most used
   unfolding AreAligned
-  aligned_cons v used fits small u (inl same) = subst (λ x. x.align ≤ most) (sym same) fits
-  aligned_cons v used fits small u (inr i) = small u i
-
-  aligned_others : (addr : ℕ) (used : List Used) → AreAligned most used → AreAligned most (others addr used)
-  unfolding AreAligned
-  aligned_others addr used small u i = small u (IsIn-others addr u used i).0
+  aligned_none used is u i = absurd (subst (IsIn u) is i)
 
   aligned_at : (u : Used) (used : List Used) → AreAligned most used → IsIn u used → u.align ≤ most
   unfolding AreAligned
   aligned_at u used small i = small u i
 
-  aligned_filled : (addr : ℕ) (bytes : List ℕ) (used : List Used) → AreAligned most used → AreAligned most (filled_at addr bytes used)
+  aligned_after : {first : List Used} {e : Event} {before after : List Used} → ((n : ℕ) → IsGivenAlign first e n → n ≤ most) → Goes first e before after
+      → AreAligned most before → AreAligned most after
   unfolding AreAligned
-  aligned_filled addr bytes used small v i =
-      let (u, j, same) = shape-filled_from addr bytes v used i in
+  aligned_after fits (as_before is) small u i = small u (subst (IsIn u) is i)
+  aligned_after fits (one_more v returns align is) small u i = elim (subst (IsIn u) is i) [
+    | inl at ↦ subst (λ x. x.align ≤ most) (sym at) (fits v.align align)
+    | inr j ↦ small u j
+  ]
+  aligned_after {before = before} fits (one_less a names is) small u i = small u (IsIn-others a u before (subst (IsIn u) is i)).0
+  aligned_after {before = before} fits (one_filled a bytes names is) small v i =
+      let (u, j, same) = shape-filled_from a bytes v before (subst (IsIn v) is i) in
       subst (λ n. n ≤ most) (sym (ap (λ h. h.align) same)) (small u j)
-
-  pub aligned_none : (used : List Used) → used ≡ [] → AreAligned most used
-  unfolding AreAligned
-  aligned_none used is u i = absurd (subst (IsIn u) is i)
-
-  allocate_aligned : (sllen size align : ℕ) (reply : Option ℕ) (s t : State) → align ≤ most → AreAligned most s.used → Allocates sllen s size align reply t
-      → AreAligned most t.used
-  allocate_aligned sllen size align None s t fits small step = aligned_by step.1 small
-  allocate_aligned sllen size align (Some addr) s t fits small step = aligned_by step.after (aligned_cons (placed step.range size align step.bytes) s.used fits small)
-
-  reallocate_aligned : (sllen size : ℕ) (u : Used) (o : Option Plan) (reply : Option ℕ) (s t : State) → u.align ≤ most → AreAligned most s.used
-      → ReallocatesBy sllen s u size o reply t → AreAligned most t.used
-  reallocate_aligned sllen size u (Some p) None s t fits small step = absurd step
-  reallocate_aligned sllen size u (Some p) (Some addr) s t fits small step =
-      aligned_by step.after (aligned_cons (moved u p step.bytes) (others u.payload s.used) fits (aligned_others u.payload s.used small))
-  reallocate_aligned sllen size u None None s t fits small step = aligned_by step.1 small
-  reallocate_aligned sllen size u None (Some addr) s t fits small step =
-      aligned_by step.released.after
-      (aligned_others step.released.block.payload step.meanwhile.used (allocate_aligned sllen size u.align (Some addr) s step.meanwhile fits small step.allocated))
+  aligned_after fits (in_turn between x y) small u i = aligned_after fits y (aligned_after fits x small) u i
 
   pub step_aligned : (live size n fllen sllen : ℕ) (s t : State) (e : Event) → AsksWithin live size most n e → AreAligned most s.used → Leads fllen sllen s e t
       → AreAligned most t.used
-  step_aligned live size n fllen sllen s t (insert r reply) within small step = subst (AreAligned most) (sym (used-inserted fllen s t r reply step)) small
-  step_aligned live size n fllen sllen s t (append r reply) within small step = subst (AreAligned most) (sym (used-appended fllen s t r reply step)) small
-  step_aligned live size n fllen sllen s t (allocate z align reply) (few, short, fits) small step = allocate_aligned sllen z align reply s t fits small step
-  step_aligned live size n fllen sllen s t (deallocate addr) within small step = aligned_by step.after (aligned_others step.block.payload s.used small)
-  step_aligned live size n fllen sllen s t (reallocate addr z reply) within small step =
-      reallocate_aligned sllen z step.block (plan s step.block z) reply s t (aligned_at step.block s.used small step.holds.0) small step.step
-  step_aligned live size n fllen sllen s t (fill addr bytes) within small step =
-      aligned_by step.after (aligned_filled addr bytes s.used small)
-  step_aligned live size n fllen sllen s t (remove r) within small step = absurd within
-  step_aligned live size n fllen sllen s t (trim k) within small step = absurd within
+  step_aligned live size n fllen sllen s t e within small step = aligned_after (given e within) (step_goes fllen sllen s t e step) small
+    where
+      given : (e : Event) → AsksWithin live size most n e → (m : ℕ) → IsGivenAlign s.used e m → m ≤ most
+      given (allocate z align reply) within m is = omega (arith, within.2)
+      given (reallocate addr z reply) within m (u, i, is) = omega (arith, aligned_at u s.used small i)
+      given e within m is = absurd is
 
 -- ---- runs, by their calls alone
 

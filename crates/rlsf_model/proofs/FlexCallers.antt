@@ -7,21 +7,57 @@ use Rattle.std.specs.Option.{option_map}
 use Rattle.rlsf_base.specs.declared.memory.range.Range.{Range}
 use Rattle.rlsf_model.specs.Allocate.{Places, placed}
 use Rattle.rlsf_model.specs.Callers.{Changes, ServesLayout, payload_at, payload_in, IsResizedInMap}
-use Rattle.rlsf_model.specs.FlexState.{FlexState}
+use Rattle.rlsf_model.specs.FlexRun.{FlexLeads}
+use Rattle.rlsf_model.specs.FlexState.{FlexState, with_machine}
 use Rattle.rlsf_model.specs.Laws.{FlexCallersSeeMap}
 use Rattle.rlsf_model.specs.Lists.{IsIn}
+use Rattle.rlsf_model.specs.Note.{Note}
 use Rattle.rlsf_model.specs.Payload.{payload_of}
 use Rattle.rlsf_model.specs.Reallocate.{Keeps, MovesAway, Reallocates}
-use Rattle.rlsf_model.specs.Run.{insert, append, allocate, deallocate, reallocate, fill, remove, trim, Leads}
+use Rattle.rlsf_model.specs.Run.{Event, insert, append, allocate, deallocate, reallocate, fill, remove, trim, Leads}
 use Rattle.rlsf_model.specs.State.{State, Used, Holds, others}
+use Rattle.rlsf_model.specs.Terms.{Terms}
 use Rattle.rlsf_model.specs.WellFormed.{coverage, IsWellFormed}
 use Rattle.rlsf_model.proofs.Callers.{callers_see_map, payload_at-held, payload_at-none}
 use Rattle.rlsf_model.proofs.Changes.{Holds-unique, IsIn-others, IsIn-others_from}
 use Rattle.rlsf_model.proofs.Coverage.{by_test, covers-inside, coverage-IsIn}
-use Rattle.rlsf_model.proofs.Growths.{used-taken}
+use Rattle.rlsf_model.proofs.Growths.{Holds-same, used-taken}
+use Rattle.rlsf_model.proofs.UsedBlocks.{Goes, as_before, reallocate_goes, step_goes}
 use Rattle.rlsf_model.proofs.Payloads.{IsUsed-after_start, payload_of-after, block_length-le, block_length-lt}
 use Rattle.rlsf_model.proofs.Trims.{used-trimmed}
 use Rattle.rlsf_model.proofs.Tiling.{block_of, tiling_of, used-le}
+
+-- a step over a source makes such changes of the used blocks, too
+module _ (fllen sllen : ℕ) (t : Terms) (s u : FlexState) where
+  -- in the same state but for its ranges
+  goes_at : (e : Event) (m : FlexState) (x : State) → m.machine.used ≡ s.machine.used → u ≡ with_machine m x → Goes m.machine.used e m.machine.used x.used
+      → Goes s.machine.used e s.machine.used u.machine.used
+  goes_at e m x same after goes =
+      subst (λ (y : FlexState). Goes s.machine.used e s.machine.used y.machine.used) (sym after) (subst (λ l. Goes l e l x.used) same goes)
+
+  pub flex_step_goes : (e : Event) (notes : List Note) → FlexLeads fllen sllen t s e notes u → Goes s.machine.used e s.machine.used u.machine.used
+  flex_step_goes (allocate size align None) notes step = as_before (ap (λ (x : FlexState). x.machine.used) step.extends.after)
+  flex_step_goes (allocate size align (Some addr)) notes (inl room) =
+      goes_at (allocate size align (Some addr)) s room.machine refl room.after (step_goes fllen sllen s.machine room.machine (allocate size align (Some addr)) room.allocates)
+  flex_step_goes (allocate size align (Some addr)) notes (inr more) =
+      let m = more.meanwhile in
+      goes_at (allocate size align (Some addr)) m more.machine (used-taken fllen t s m more.outcome more.asks.extends.after) more.after
+      (step_goes fllen sllen m.machine more.machine (allocate size align (Some addr)) more.allocates)
+  flex_step_goes (deallocate addr) notes step =
+      goes_at (deallocate addr) s step.machine refl step.after (step_goes fllen sllen s.machine step.machine (deallocate addr) step.leads)
+  flex_step_goes (reallocate addr size None) notes step = as_before (ap (λ (x : FlexState). x.machine.used) step.asks.extends.after)
+  flex_step_goes (reallocate addr size (Some to)) notes (inl room) =
+      goes_at (reallocate addr size (Some to)) s room.machine refl room.after
+      (step_goes fllen sllen s.machine room.machine (reallocate addr size (Some to)) room.reallocates)
+  flex_step_goes (reallocate addr size (Some to)) notes (inr more) =
+      let m = more.meanwhile in
+      let is = used-taken fllen t s m more.outcome more.asks.extends.after in
+      goes_at (reallocate addr size (Some to)) m more.machine is more.after
+      (reallocate_goes sllen m.machine more.machine addr size more.block (Holds-same s.machine m.machine addr more.block is more.stuck.holds) None (Some to) more.moves)
+  flex_step_goes (fill addr bytes) notes step =
+      goes_at (fill addr bytes) s step.machine refl step.after (step_goes fllen sllen s.machine step.machine (fill addr bytes) step.leads)
+  flex_step_goes (trim count) notes step = as_before (used-trimmed t s u count notes step)
+  flex_step_goes e notes step = absurd step
 
 -- behind the first used block of a well-formed state none has its address
 pub first_alone : {fllen sllen : ℕ} {memory : Range} {t : State} → IsWellFormed fllen sllen memory t → (v u : Used) (rest : List Used) → t.used ≡ v ∷ rest

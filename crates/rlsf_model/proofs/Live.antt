@@ -24,6 +24,7 @@ use Rattle.rlsf_model.proofs.Fillings.{filled_at-none, filled_if-here, IsIn-fill
 use Rattle.rlsf_model.proofs.Plans.{IsSoundPlan, IsSound-plan}
 use Rattle.rlsf_model.proofs.Payloads.{payload_of-after, IsUsed-aligned, IsUsed-after_start, IsUsed-some}
 use Rattle.rlsf_model.proofs.Tiling.{block_of, tiling_of, used-le, blocks-le, lies_in_chunk, IsPart-used}
+use Rattle.rlsf_model.proofs.UsedBlocks.{stays, step_goes, was}
 
 pub live_addresses_are_aligned : LiveAddressesAreAligned
 live_addresses_are_aligned fllen sllen memory s addr align w (u, (i, at), is) =
@@ -258,34 +259,8 @@ reallocated_is_live fllen sllen memory s t addr size to align w live step = IsLi
 
 -- ---- payloads that a step doesn't name
 
-module _ (u : Used) (s t : State) (i : IsIn u s.used) where
-  stays_at : {r : State} → t ≡ r → IsIn u r.used → IsIn u t.used
-  stays_at is j = subst (λ x. IsIn u x.used) (sym is) j
-
-  allocate_stays : (sllen size align : ℕ) (reply : Option ℕ) → Allocates sllen s size align reply t → IsIn u t.used
-  allocate_stays sllen size align None step = stays_at step.1 i
-  allocate_stays sllen size align (Some addr) step = stays_at step.after (inr i)
-
-  others_stay : (addr : ℕ) (v : Used) → Holds s addr v → (addr ≡ u.payload → ⊥) → IsIn u (others v.payload s.used)
-  others_stay addr v holds apart = IsIn-others_from v.payload u s.used i (λ at. apart (sym holds.1 ∙ sym at))
-
-  pub reallocate_stays : (sllen addr size : ℕ) (v : Used) → Holds s addr v → (addr ≡ u.payload → ⊥) → (o : Option Plan) (reply : Option ℕ)
-      → ReallocatesBy sllen s v size o reply t → IsIn u t.used
-  reallocate_stays sllen addr size v holds apart (Some p) None step = absurd step
-  reallocate_stays sllen addr size v holds apart (Some p) (Some to) step = stays_at step.after (inr (others_stay addr v holds apart))
-  reallocate_stays sllen addr size v holds apart None None step = stays_at step.1 i
-  reallocate_stays sllen addr size v holds apart None (Some to) step = grind (arith, stays_at, IsIn-others_from)
-
 pub other_payloads_stay : OtherPayloadsStay
-other_payloads_stay fllen sllen s t (insert r reply) u step i apart = subst (IsIn u) (sym (used-inserted fllen s t r reply step)) i
-other_payloads_stay fllen sllen s t (append r reply) u step i apart = subst (IsIn u) (sym (used-appended fllen s t r reply step)) i
-other_payloads_stay fllen sllen s t (allocate size align reply) u step i apart = allocate_stays u s t i sllen size align reply step
-other_payloads_stay fllen sllen s t (deallocate addr) u step i apart = stays_at u s t i step.after (others_stay u s t i addr step.block step.holds apart)
-other_payloads_stay fllen sllen s t (reallocate addr size reply) u step i apart =
-    reallocate_stays u s t i sllen addr size step.block step.holds apart (plan s step.block size) reply step.step
-other_payloads_stay fllen sllen s t (fill addr bytes) u step i apart = stays_at u s t i step.after (IsIn-filled_other addr bytes u s.used i (λ at. apart (sym at)))
-other_payloads_stay fllen sllen s t (remove r) u step i apart = stays_at u s t i step i
-other_payloads_stay fllen sllen s t (trim count) u step i apart = absurd step
+other_payloads_stay fllen sllen s t e u step i apart = stays u apart (step_goes fllen sllen s t e step) i
 
 pub live_stays : LiveStays
 live_stays fllen sllen s t e addr align step (u, (i, at), is) apart = (u, (other_payloads_stay fllen sllen s t e u step i (λ names. apart (subst (CallNames e) at names)), at), is)
@@ -294,40 +269,8 @@ pub released_is_not_live : ReleasedIsNotLive
 released_is_not_live s t addr align step (v, (i, at), is) =
     (IsIn-others step.block.payload v s.used (subst (λ x. IsIn v x.used) step.after i)).1 (at ∙ sym step.holds.1)
 
--- ---- where used blocks come from
-
-module _ (u : Used) (s t : State) (i : IsIn u t.used) where
-  -- it isn't the first one, whose address is another
-  from_rest : (v : Used) (rest : List Used) → t.used ≡ v ∷ rest → (v.payload ≡ u.payload → ⊥) → IsIn u rest
-  from_rest v rest is other =
-      let j : (u ≡ v) ⊎ IsIn u rest = subst (IsIn u) is i in
-      elim j [ inl same ↦ absurd (other (ap (λ x. x.payload) (sym same))) | inr k ↦ k ]
-
-  allocate_from : (sllen size align : ℕ) (reply : Option ℕ) → (reply ≡ Some u.payload → ⊥) → Allocates sllen s size align reply t → IsIn u s.used
-  allocate_from sllen size align None new step = subst (λ x. IsIn u x.used) step.1 i
-  allocate_from sllen size align (Some addr) new step =
-      from_rest (placed step.range size align step.bytes) s.used (ap (λ x. x.used) step.after) (λ at. new (ap Some (step.answer ∙ at)))
-
-module _ (u : Used) (s t : State) (i : IsIn u t.used) where
-  pub reallocate_from : (sllen size : ℕ) (v : Used) (o : Option Plan) (reply : Option ℕ) → (reply ≡ Some u.payload → ⊥) → ReallocatesBy sllen s v size o reply t
-      → IsIn u s.used
-  reallocate_from sllen size v (Some p) None new step = absurd step
-  reallocate_from sllen size v (Some p) (Some to) new step =
-      (IsIn-others v.payload u s.used
-      (from_rest u s t i (moved v p step.bytes) (others v.payload s.used) (ap (λ x. x.used) step.after) (λ at. new (ap Some (step.answer ∙ at))))).0
-  reallocate_from sllen size v None None new step = subst (λ x. IsIn u x.used) step.1 i
-  reallocate_from sllen size v None (Some to) new step = grind (arith, allocate_from, IsIn-others)
-
 pub used_was_used : UsedWasUsed
-used_was_used fllen sllen s t (insert r reply) u step i other new = subst (IsIn u) (used-inserted fllen s t r reply step) i
-used_was_used fllen sllen s t (append r reply) u step i other new = subst (IsIn u) (used-appended fllen s t r reply step) i
-used_was_used fllen sllen s t (allocate size align reply) u step i other new = allocate_from u s t i sllen size align reply new step
-used_was_used fllen sllen s t (deallocate addr) u step i other new = (IsIn-others step.block.payload u s.used (subst (λ x. IsIn u x.used) step.after i)).0
-used_was_used fllen sllen s t (reallocate addr size reply) u step i other new = reallocate_from u s t i sllen size step.block (plan s step.block size) reply new step.step
-used_was_used fllen sllen s t (fill addr bytes) u step i other new =
-    IsIn-filled_other_from addr bytes u s.used (subst (λ x. IsIn u x.used) step.after i) (λ at. other (sym at))
-used_was_used fllen sllen s t (remove r) u step i other new = subst (λ x. IsIn u x.used) step i
-used_was_used fllen sllen s t (trim count) u step i other new = absurd step
+used_was_used fllen sllen s t e u step i other new = was u other new (step_goes fllen sllen s t e step) i
 
 -- ---- what a fill and a deallocation leave
 
@@ -338,7 +281,7 @@ filled_has_bytes fllen sllen memory s t addr align bytes w (u, held, is) step =
     ((v, filled_holds step, ap (λ x. x.align) same ∙ is), (v, filled_holds step, refl))
 
 pub fill_leaves_others : FillLeavesOthers
-fill_leaves_others s t addr bytes step = grind (arith, stays_at, IsIn-filled_other, IsIn-filled_other_from)
+fill_leaves_others s t addr bytes step = grind (arith, IsIn-filled_other, IsIn-filled_other_from)
 
 pub deallocation_leaves_others : DeallocationLeavesOthers
-deallocation_leaves_others s t addr step = grind (arith, IsIn-others, stays_at, IsIn-others_from)
+deallocation_leaves_others s t addr step = grind (arith, IsIn-others, IsIn-others_from)
