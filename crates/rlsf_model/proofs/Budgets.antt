@@ -88,14 +88,7 @@ not_denied live most {s = s} w fronts are small budget few size align fits t ste
 
 -- a call within a budget takes no memory away
 pub IsModest-stays : (live most : ℕ) (s : State) (e : Event) → IsModest live most s e → IsRemoval e → ⊥
-IsModest-stays live most s (insert r reply) modest removal = removal
-IsModest-stays live most s (append r reply) modest removal = removal
-IsModest-stays live most s (allocate size align reply) modest removal = removal
-IsModest-stays live most s (deallocate addr) modest removal = removal
-IsModest-stays live most s (reallocate addr size reply) modest removal = removal
-IsModest-stays live most s (fill addr bytes) modest removal = removal
-IsModest-stays live most s (remove r) modest removal = modest
-IsModest-stays live most s (trim n) modest removal = modest
+IsModest-stays live most s e modest removal = grind arith
 
 -- each step that takes no memory away keeps the fronts of chunks
 pub AreFronts-kept : (fllen sllen : ℕ) (s : State) (fronts : List Range) → AreFronts s.chunks fronts → (t : State) (e : Event) → (IsRemoval e → ⊥)
@@ -191,14 +184,7 @@ frugal_runs_are_not_denied live bytes most fllen sllen memory s t fronts (d ∷ 
 
 -- few payloads are live before a modest call that requests bytes
 few_live : (live most : ℕ) (s : State) (e : Event) → IsModest live most s e → IsRequest e → length s.used ≤ live
-few_live live most s (insert r reply) modest asks = absurd asks
-few_live live most s (append r reply) modest asks = absurd asks
-few_live live most s (allocate size align reply) modest asks = modest.0
-few_live live most s (deallocate addr) modest asks = absurd asks
-few_live live most s (reallocate addr size reply) modest asks = modest.0
-few_live live most s (fill addr bytes) modest asks = absurd asks
-few_live live most s (remove r) modest asks = absurd asks
-few_live live most s (trim n) modest asks = absurd asks
+few_live live most s e modest asks = grind arith
 
 -- a modest run is frugal: the used blocks have the bytes of as many of the greatest length, or fewer
 runs_frugally : (live most fllen sllen : ℕ) (memory : Range) (s t : State) (es : List Event) → IsWellFormed fllen sllen memory s → AreAtMost most s.used
@@ -289,9 +275,7 @@ module _ (most : ℕ) where
   step_aligned live size n fllen sllen s t e within small step = aligned_after (given e within) (step_goes fllen sllen s t e step) small
     where
       given : (e : Event) → AsksWithin live size most n e → (m : ℕ) → IsGivenAlign s.used e m → m ≤ most
-      given (allocate z align reply) within m is = omega (arith, within.2)
-      given (reallocate addr z reply) within m (u, i, is) = omega (arith, aligned_at u s.used small i)
-      given e within m is = absurd is
+      given e within m is = grind (arith, aligned_at)
 
 -- ---- runs, by their calls alone
 
@@ -300,15 +284,7 @@ request_size-mono size align most_size most_align short fits = round32-mono (siz
 
 pub modest_by : (live size align n : ℕ) (s : State) (e : Event) → length s.used ≡ n → AreAligned align s.used → AsksWithin live size align n e
     → IsModest live (request_size size align) s e
-modest_by live size align n s (insert r reply) count small within = tt
-modest_by live size align n s (append r reply) count small within = tt
-modest_by live size align n s (allocate z a reply) count small (few, short, fits) = (omega arith, request_size-mono z a size align short fits)
-modest_by live size align n s (deallocate addr) count small within = tt
-modest_by live size align n s (reallocate addr z reply) count small (few, short) =
-    (omega arith, λ u holds. request_size-mono z u.align size align short (aligned_at align u s.used small holds.0))
-modest_by live size align n s (fill addr bytes) count small within = tt
-modest_by live size align n s (remove r) count small within = absurd within
-modest_by live size align n s (trim k) count small within = absurd within
+modest_by live size align n s e count small within = grind (arith, request_size-mono, aligned_at)
 
 runs_modestly : (live size align n fllen sllen : ℕ) (memory : Range) (s t : State) (es : List Event) → IsWellFormed fllen sllen memory s → length s.used ≡ n
     → AreAligned align s.used

@@ -108,13 +108,7 @@ module _ {fllen sllen : ℕ} {before after : Range} {s t : State} (w : IsWellFor
 -- a payload that moved is not at its old address
 module _ (s t : State) (u : Used) (size to : ℕ) (apart : to ≢ u.payload) where
   left_behind : (sllen : ℕ) (o : Option Plan) → ReallocatesBy sllen s u size o (Some to) t → (x : Used) → Holds t u.payload x → ⊥
-  left_behind sllen (Some p) step x held =
-      let among : (x ≡ moved u p step.bytes) ⊎ IsIn x (others u.payload s.used) = subst (λ (y : State). IsIn x y.used) step.after held.0 in
-      elim among [
-        | inl same ↦ apart (step.answer ∙ sym (ap (λ (y : Used). y.payload) same) ∙ held.1)
-        | inr i ↦ (IsIn-others u.payload x s.used i).1 held.1
-      ]
-  left_behind sllen None step x held = released_is_not_live step.meanwhile t u.payload x.align step.released (x, held, refl)
+  left_behind sllen o step x held = grind (arith, IsIn-others, released_is_not_live)
 
 unchanged : {s t : State} → t ≡ s → IsSameMap (payload_at s) (payload_at t)
 unchanged same a = ap (λ x. payload_at x a) same

@@ -14,10 +14,7 @@ pub is_at_most-true : (c d : SizeClass) → is_at_most c d ≡ true → IsAtMost
 is_at_most-true c d h = grind (arith, cases_lt, and_parts, le-ltb, eqb-true, leb-true)
 
 pub is_at_most-from : (c d : SizeClass) → IsAtMost c d → is_at_most c d ≡ true
-is_at_most-from c d (inl less) = ap (λ b. b || (eqb c.exponent d.exponent && leb c.division d.division)) (lt-ltb c.exponent d.exponent less)
-is_at_most-from c d (inr (same, order)) =
-    ap (λ b. b || (eqb c.exponent d.exponent && leb c.division d.division)) (le-ltb c.exponent d.exponent (omega arith))
-    ∙ and_from (eqb c.exponent d.exponent) (leb c.division d.division) (eq-eqb c.exponent d.exponent same) (le-leb c.division d.division order)
+is_at_most-from c d h = grind (arith, lt-ltb, le-ltb, and_from, eq-eqb, le-leb)
 
 pub has_class-true : (sllen : ℕ) (c : SizeClass) (f : Range) → has_class sllen c f ≡ true → class_of sllen f.len ≡ c
 has_class-true sllen c f h = grind (arith, and_parts, eqb-true)

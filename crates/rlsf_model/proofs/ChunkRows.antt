@@ -37,10 +37,7 @@ unfolding IsAdjacent
 IsAdjacent-remainder at len = grind (arith, cases_lt, remainder-none, remainder-one)
 
 IsAdjacent-cut : (o : Option ℕ) (part : Range) → IsAdjacent part.start (cut o part)
-IsAdjacent-cut None part = IsAdjacent-remainder part.start part.len
-IsAdjacent-cut (Some most) part =
-    let n = part.len / most in
-    IsAdjacent-adjacent n part.start most (remainder (part.start + n * most) (part.len - n * most)) (IsAdjacent-remainder (part.start + n * most) (part.len - n * most))
+IsAdjacent-cut o part = grind (arith, IsAdjacent-remainder, IsAdjacent-adjacent)
 
 end_of_last-le : (at : ℕ) (cs : List Range) → IsAdjacent at cs → at ≤ end_of_last at cs
 unfolding IsAdjacent
@@ -96,8 +93,7 @@ IsRow-cut s o part a low high =
 -- the last chunk's end, from the bytes that were taken
 bytes_taken-some : (start at len : ℕ) (cs : List Range) → start ≤ at → IsAdjacent at cs → bytes_taken start cs ≡ Some len → start + len ≡ end_of_last at cs
 unfolding IsAdjacent
-bytes_taken-some start at len [] order h e = absurd (cc)
-bytes_taken-some start at len (c ∷ cs) order (first, rest) e = grind (arith, end_of_last-le)
+bytes_taken-some start at len l order h e = grind (arith, end_of_last-le)
 
 -- what an insert takes is a row, from the first multiple of 32 on
 pub IsRow-inserted : (fllen : ℕ) (s t : State) (r : Range) (len : ℕ) → Inserts fllen s r (Some len) t → IsRow t (between (round32 r.start) (r.start + len))

@@ -83,8 +83,7 @@ chunks_stay fllen sllen s t (trim count) c lasts step i = absurd step
 -- ---- steps that change no chunk
 
 pub chunks-allocated : (sllen : ℕ) (s t : State) (size align : ℕ) (reply : Option ℕ) → Allocates sllen s size align reply t → t.chunks ≡ s.chunks
-chunks-allocated sllen s t size align None step = ap (λ x. x.chunks) step.1
-chunks-allocated sllen s t size align (Some addr) step = ap (λ x. x.chunks) step.after
+chunks-allocated sllen s t size align o step = grind arith
 
 pub chunks-deallocated : (s t : State) (addr : ℕ) → Deallocates s addr t → t.chunks ≡ s.chunks
 chunks-deallocated s t addr step = ap (λ x. x.chunks) step.after
@@ -93,10 +92,7 @@ pub chunks-reallocated : (sllen : ℕ) (s t : State) (addr size : ℕ) (reply : 
 chunks-reallocated sllen s t addr size reply step = go (plan s step.block size) reply step.step
   where
     go : (o : Option Plan) (q : Option ℕ) → ReallocatesBy sllen s step.block size o q t → t.chunks ≡ s.chunks
-    go (Some p) None by = absurd by
-    go (Some p) (Some to) by = ap (λ x. x.chunks) by.after
-    go None None by = ap (λ x. x.chunks) by.1
-    go None (Some to) by = ap (λ x. x.chunks) by.released.after ∙ ap (λ x. x.chunks) by.allocated.after
+    go o o' by = grind arith
 
 pub chunks-filled : (s t : State) (addr : ℕ) (bytes : List ℕ) → Fills s addr bytes t → t.chunks ≡ s.chunks
 chunks-filled s t addr bytes step = ap (λ x. x.chunks) step.after
@@ -125,16 +121,13 @@ used-with_chunks [] s = refl
 used-with_chunks (c ∷ cs) s = used-with_chunks cs (with_chunk c s)
 
 used-grown_if : (o : Option Range) (n : ℕ) (s : State) → (grown_if o n s).used ≡ s.used
-used-grown_if None n s = refl
-used-grown_if (Some c) n s = refl
+used-grown_if o n s = grind arith
 
 used-extended : (at n : ℕ) (s : State) → (extended at n s).used ≡ s.used
-used-extended at zero s = refl
-used-extended at (suc n) s = used-grown_if (find (ends_at at) s.chunks) (suc n) s
+used-extended at n' s = grind (arith, used-grown_if)
 
 used-appended_by : (o : Option ℕ) (r : Range) (s : State) → (appended o r s).used ≡ s.used
-used-appended_by None r s = used-extended r.start (r.len / 32 * 32) s
-used-appended_by (Some most) r s = used-with_chunks (cut (Some most) (aligned_part r)) s
+used-appended_by o r s = grind (arith, used-extended, used-with_chunks)
 
 pub used-inserted : (fllen : ℕ) (s t : State) (r : Range) (reply : Option ℕ) → Inserts fllen s r reply t → t.used ≡ s.used
 used-inserted fllen s t r reply step = ap (λ x. x.used) step.after ∙ used-with_chunks (cut (max_pool_size fllen) (aligned_part r)) s

@@ -97,8 +97,7 @@ module _ (part : Range) (part_whole : IsWhole part) where
       )
 
   pub coverage-cut : (o : Option ℕ) (a : ℕ) → coverage itself (cut o part) a ≤ covers part a
-  coverage-cut None a = coverage-remainder part.start part.len a
-  coverage-cut (Some most) a = coverage-cut_most most a
+  coverage-cut o a = grind (arith, coverage-remainder, coverage-cut_most)
 
   -- the chunks are pieces, and less their last 32 bytes they aren't too long
   pub IsIn-cut : (fllen : ℕ) → 0 < fllen → (0 < part.len → end_of part < 2 ^ 64) → (c : Range) → IsIn c (cut (max_pool_size fllen) part)

@@ -229,8 +229,6 @@ flex_similar_states_agree fl_bits sl_bits fllen sllen memory t s s' u u' e e' no
 pub flex_similar_runs_agree : FlexSimilarRunsAgree
 flex_similar_runs_agree fl_bits sl_bits fllen sllen memory t s s' u u' [] [] valid w w' r run run' same agree =
     (refl, subst (λ x. AreFlexSimilar x u') (sym run) (subst (AreFlexSimilar s) (sym run') r))
-flex_similar_runs_agree fl_bits sl_bits fllen sllen memory t s s' u u' [] (d ∷ ds) valid w w' r run run' same agree = absurd same
-flex_similar_runs_agree fl_bits sl_bits fllen sllen memory t s s' u u' (c ∷ cs) [] valid w w' r run run' same agree = absurd same
 flex_similar_runs_agree fl_bits sl_bits fllen sllen memory t s s' u u' (c ∷ cs) (d ∷ ds) valid w w' r (m, step, rest) (m', step', rest') (same, others) agree =
     let (event, notes, near) =
     flex_similar_states_agree fl_bits sl_bits fllen sllen memory t s s' m m' c.event d.event c.notes d.notes valid w w' r step.answers step.leads step'.leads same
@@ -241,3 +239,4 @@ flex_similar_runs_agree fl_bits sl_bits fllen sllen memory t s s' u u' (c ∷ cs
     let second = flex_steps_keep_well_formed fl_bits sl_bits fllen sllen memory t s' m' d.event d.notes valid w' step' in
     let (more, end) = flex_similar_runs_agree fl_bits sl_bits fllen sllen memory t m m' u u' cs ds valid first second near rest rest' others behind in
     (ap₂ (λ x xs. x ∷ xs) is more, end)
+flex_similar_runs_agree fl_bits sl_bits fllen sllen memory t s s' u u' l l' valid w w' r run run' same agree = absurd same

@@ -120,8 +120,7 @@ module _ {fllen sllen : ℕ} {memory : Range} {s s' : State} (w : IsWellFormed f
       subst (λ o. HasSameRanges (grown_if (find (ends_at at) s.chunks) (suc n) s) (grown_if o (suc n) s')) found (grown_if-same (find (ends_at at) s.chunks) (suc n))
 
   appended-same : (o : Option ℕ) (q : Range) → HasSameRanges (appended o q s) (appended o q s')
-  appended-same None q = extended-same q.start (q.len / 32 * 32)
-  appended-same (Some most) q = with_chunks-same (cut (Some most) (aligned_part q)) s s' r
+  appended-same o q = grind (arith, extended-same, with_chunks-same)
 
   HasSameRanges-at : {t t' u u' : State} → t ≡ u → t' ≡ u' → HasSameRanges u u' → HasSameRanges t t'
   HasSameRanges-at {t} {t'} {u} e e' q = subst (λ x. HasSameRanges x t') (sym e) (subst (HasSameRanges u) (sym e') q)

@@ -172,8 +172,7 @@ module _ {fllen sllen : ℕ} {memory : Range} {s : State} (w : IsWellFormed flle
 
   -- a plan that was made is sound
   tested : (b : Bool) (q p : Plan) → (b ≡ true → IsSoundPlan s u size q) → cond b (Some q) None ≡ Some p → IsSoundPlan s u size p
-  tested true q p sound e = let same : q ≡ p = cc in subst (IsSoundPlan s u size) same (sound refl)
-  tested false q p sound e = absurd (cc)
+  tested b q p sound e = grind arith
 
   pub IsSound-in_place : (p : Plan) → in_place s u size ≡ Some p → IsSoundPlan s u size p
   IsSound-in_place p e =
@@ -198,8 +197,7 @@ module _ {fllen sllen : ℕ} {memory : Range} {s : State} (w : IsWellFormed flle
           (λ fits. into_previous_sound f found (leb-true (end_of block) end fits)) e
 
   or_else-some : (q r : Option Plan) (p : Plan) → or_else q r ≡ Some p → (q ≡ Some p) ⊎ (r ≡ Some p)
-  or_else-some None r p e = inr e
-  or_else-some (Some q) r p e = inl e
+  or_else-some o r p e = grind arith
 
   pub IsSound-plan : (p : Plan) → plan s u size ≡ Some p → IsSoundPlan s u size p
   IsSound-plan p e = elim (or_else-some (in_place s u size) (or_else (into_next s u size) (into_previous s u size)) p e) [

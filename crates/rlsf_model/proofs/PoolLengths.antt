@@ -92,15 +92,7 @@ request_size-object block asked align whole some is small =
     ap round32 sum ∙ round32-same block whole
 
 asks_uniformly : (block asked : ℕ) → block % 32 ≡ 0 → 0 < block → asked ≡ block - 16 → (e : Event) → AsksForObject asked e → AsksUniformly block e
-asks_uniformly block asked whole some is (insert r reply) asks = absurd asks
-asks_uniformly block asked whole some is (append r reply) asks = absurd asks
-asks_uniformly block asked whole some is (allocate size align reply) (same, small) =
-    (ap (λ n. request_size n align) same ∙ request_size-object block asked align whole some is small, omega arith)
-asks_uniformly block asked whole some is (deallocate addr) asks = tt
-asks_uniformly block asked whole some is (reallocate addr size reply) asks = absurd asks
-asks_uniformly block asked whole some is (fill addr bytes) asks = tt
-asks_uniformly block asked whole some is (remove r) asks = absurd asks
-asks_uniformly block asked whole some is (trim n) asks = absurd asks
+asks_uniformly block asked whole some is e asks = grind (arith, request_size-object)
 
 blocks_in-pool : (count block : ℕ) (c : Range) → 0 < block → c.len ≡ count * block + 32 → blocks_in block c ≡ count
 blocks_in-pool count block c some is =

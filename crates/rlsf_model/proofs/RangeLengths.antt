@@ -42,9 +42,7 @@ range_asked t None e n asked = asked
 range_asked t (Some k) e n asked = go (if_fits (k.len + e)) asked
   where
     unless : (b : Bool) → cond b None (range_length t e) ≡ Some n → range_length t e ≡ Some n
-    unless true asked = absurd (none-some n asked)
-    unless false asked = asked
+    unless b asked = grind (arith, none-some)
 
     go : (o : Option ℕ) → (questions_kept t k e o).range ≡ Some n → range_length t e ≡ Some n
-    go None asked = absurd (none-some n asked)
-    go (Some m) asked = unless t.contiguous asked
+    go o asked = grind (arith, none-some, unless)

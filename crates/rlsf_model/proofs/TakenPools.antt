@@ -167,8 +167,7 @@ module _ {fllen sllen : ℕ} {memory : Range} {s : State} (w : IsWellFormed flle
       grown_pool d is_in (eqb-true (end_of d) r.start passes)
 
 extended-some : (at n : ℕ) (s : State) → 0 < n → extended at n s ≡ grown_if (find (ends_at at) s.chunks) n s
-extended-some at zero s some = absurd (omega arith)
-extended-some at (suc n) s some = refl
+extended-some at n' s some = grind arith
 
 -- a range that is appended is taken, and has a pool
 pub appended_pool : (fllen sllen e : ℕ) (memory : Range) (s t : State) (r : Range) (n : ℕ) → IsWellFormed fllen sllen memory s → IsNext memory s r → 64 ≤ e

@@ -158,8 +158,7 @@ is_held-from r (u ∷ used) e = or_parts (leb r.start u.block.start && (leb (u.b
     (λ f. let (a, low, high, some) = is_held-from r used f in (a, low, high, omega arith))
 
 is_newest_held-from : (s : State) (ranges : List Range) → is_newest_held ranges s.used ≡ true → IsNewestHeld s ranges
-is_newest_held-from s [] e = tt
-is_newest_held-from s (r ∷ ranges) e = λ idle. let (a, low, high, some) = is_held-from r s.used e in omega (arith, idle a low high)
+is_newest_held-from s l e = grind (arith, is_held-from)
 
 last_end-le : (r : Range) (cs : List Range) (c : Range) → IsIn c cs → r.start ≤ c.start → end_of c ≤ end_of r → end_of c ≤ last_end r cs
 last_end-le r [] c i low high = absurd i
@@ -183,8 +182,7 @@ ends_in-from r a (c ∷ cs) e = or_parts (lies_within r c && eqb (end_of c) a) (
     (λ f. let (d, i, low, high, at) = ends_in-from r a cs f in (d, inr i, low, high, at))
 
 has_last-from : (chunks ranges : List Range) → has_last chunks ranges ≡ true → IsKeptToLast chunks ranges (kept_of chunks ranges)
-has_last-from chunks [] e = refl
-has_last-from chunks (r ∷ ranges) e = grind (arith, and_parts, leb-true, ends_in-from, last_end-le)
+has_last-from chunks l e = grind (arith, and_parts, leb-true, ends_in-from, last_end-le)
 
 split_at : (n : ℕ) (xs : List Range) → xs ≡ take n xs ++ drop n xs
 split_at n xs = sym (take-append-drop n xs)

@@ -50,9 +50,7 @@ all_removed-similar (q ∷ gone) s s' r = all_removed-similar gone (removed q s)
 
 -- the same is kept
 kept-same : (cs ds : List Range) → HasSame cs ds → (left : List Range) (k k' : Option KeptPool) → IsKeptToLast cs left k → IsKeptToLast ds left k' → k ≡ k'
-kept-same cs ds same [] k k' a b = a ∙ sym b
-kept-same cs ds same (r ∷ left) k k' (m, ends, is) (n, ends', is') =
-    is ∙ ap (λ len. Some (let x : KeptPool = record { range = r; len = len } in x)) (EndsLast-same cs ds r m n (λ c. (same c).0) (λ c. (same c).1) ends ends') ∙ sym is'
+kept-same cs ds same l k k' a b = grind (arith, EndsLast-same)
 
 pub trims-similar : (t : Terms) (s s' u u' : FlexState) (m n : ℕ) (notes notes' : List Note) → AreFlexSimilar s s' → Trims t s m notes u → Trims t s' n notes' u'
     → (m ≡ n) × (notes ≡ notes') × AreFlexSimilar u u'

@@ -181,8 +181,7 @@ module _ {fllen sllen : ℕ} {memory : Range} {t : Terms} {s : FlexState} (w : I
 
 -- a trim leaves the used blocks
 pub used-trimmed : (t : Terms) (s u : FlexState) (count : ℕ) (notes : List Note) → Trims t s count notes u → u.machine.used ≡ s.machine.used
-used-trimmed t s u count notes (inl (takes, g)) = ap (λ (m : State). m.used) g.machine ∙ used-all_removed g.gone s.machine
-used-trimmed t s u count notes (inr (_, _, _, same)) = ap (λ (x : FlexState). x.machine.used) same
+used-trimmed t s u count notes h = grind (arith, used-all_removed)
 
 -- ---- each trim has a reply
 
