@@ -13,6 +13,7 @@ use Rattle.rlsf_model.specs.Join.{ends_at}
 use Rattle.rlsf_model.specs.Lists.{IsIn}
 use Rattle.rlsf_model.specs.State.{State, between}
 use Rattle.rlsf_model.specs.WellFormed.{itself, IsWellFormed}
+use Rattle.rlsf_model.proofs.AddedChunks.{IsIn-with_chunks_new}
 use Rattle.rlsf_model.proofs.Chunks.{IsIn-without_found, IsIn-with_chunks_old}
 use Rattle.rlsf_model.proofs.Coverage.{covers-inside, coverage-IsIn, find-some, find-none}
 use Rattle.rlsf_model.proofs.Cuts.{remainder-none, remainder-one}
@@ -59,11 +60,6 @@ IsInOne-adjacent at (c ∷ cs) (start, rest) a low high = elim (cases_lt a (end_
     more : IsInOne cs (end_of c) (end_of_last (end_of c) cs) a → IsInOne (c ∷ cs) at (end_of_last (end_of c) cs) a
     more (d, i, from, low', high', to) = (d, inr i, omega arith, low', high', to)
 
-IsIn-with_chunks_new : (c : Range) (cs : List Range) (r : State) → IsIn c cs → IsIn c (with_chunks cs r).chunks
-IsIn-with_chunks_new c [] r i = absurd i
-IsIn-with_chunks_new c (d ∷ cs) r (inl same) = IsIn-with_chunks_old c cs (with_chunk d r) (inl same)
-IsIn-with_chunks_new c (d ∷ cs) r (inr i) = IsIn-with_chunks_new c cs (with_chunk d r) i
-
 -- ---- rows that stay
 
 -- a row of a state is one of each state that has its chunks
@@ -88,7 +84,7 @@ IsRow-cut : (s : State) (o : Option ℕ) (part : Range) (a : ℕ) → part.start
     → IsInOne (with_chunks (cut o part) s).chunks part.start (end_of_last part.start (cut o part)) a
 IsRow-cut s o part a low high =
     let (c, i, from, low', high', to) = IsInOne-adjacent part.start (cut o part) (IsAdjacent-cut o part) a low high in
-    (c, IsIn-with_chunks_new c (cut o part) s i, from, low', high', to)
+    (c, (IsIn-with_chunks_new c (cut o part) s i).0, from, low', high', to)
 
 -- the last chunk's end, from the bytes that were taken
 bytes_taken-some : (start at len : ℕ) (cs : List Range) → start ≤ at → IsAdjacent at cs → bytes_taken start cs ≡ Some len → start + len ≡ end_of_last at cs

@@ -6,7 +6,7 @@ use Rattle.std.proofs.lemmas.Bool.{and_parts, eqb-true, leb-true}
 use Rattle.std.proofs.lemmas.List.{take-append-drop}
 use Rattle.rlsf_base.specs.declared.memory.range.Range.{Range}
 use Rattle.rlsf_base.specs.Range.{end_of}
-use Rattle.rlsf_model.specs.FlexRun.{FlexEvent, FlexLeads}
+use Rattle.rlsf_model.specs.FlexRun.{FlexEvent, FlexLeads, FlexMayCall}
 use Rattle.rlsf_model.specs.FlexState.{FlexState, KeptPool, with_machine}
 use Rattle.rlsf_model.specs.Lists.{IsIn}
 use Rattle.rlsf_model.specs.Note.{dealloc}
@@ -32,7 +32,8 @@ pub data Move : Type 0 where
 -- calls one after another, and the answers of a source that keeps to its terms, lead from one state to another
 abbrev pub RunsWith : ℕ → ℕ → Terms → FlexState → List FlexEvent → FlexState → Type 0
 RunsWith fllen sllen t s [] u = u ≡ s
-RunsWith fllen sllen t s (c ∷ cs) u = (m : FlexState) × AreAnswers t s.pools c.notes × FlexLeads fllen sllen t s c.event c.notes m × RunsWith fllen sllen t m cs u
+RunsWith fllen sllen t s (c ∷ cs) u =
+    (m : FlexState) × FlexMayCall t.space s.machine c.event × AreAnswers t s.pools c.notes × FlexLeads fllen sllen t s c.event c.notes m × RunsWith fllen sllen t m cs u
 
 -- ---- what a trim returns and keeps
 
@@ -100,7 +101,7 @@ moved_to fllen sllen t s (gives_back n) = trimmed n s
 
 -- a call with its reply and notes
 abbrev pub moved_by : ℕ → ℕ → Terms → FlexState → Move → FlexEvent
-moved_by fllen sllen t s (allocates a) = record { event = allocate a.size a.align (done fllen sllen t s a).reply; notes = (done fllen sllen t s a).notes }
+moved_by fllen sllen t s (allocates a) = done fllen sllen t s a
 moved_by fllen sllen t s (frees addr) = record { event = deallocate addr; notes = [] }
 moved_by fllen sllen t s (gives_back n) = record { event = trim n; notes = map dealloc (take n s.pools) }
 
@@ -202,11 +203,11 @@ module _ (fllen sllen : ℕ) (t : Terms) (s : FlexState) where
   trim_leads n e = grind (arith, and_parts, split_at, are_idle-from, is_newest_held-from, eqb-true, has_last-from)
 
   move_leads : (m : Move) → may_move fllen sllen t s m ≡ true
-      → AreAnswers t s.pools (moved_by fllen sllen t s m).notes
+      → FlexMayCall t.space s.machine (moved_by fllen sllen t s m).event × AreAnswers t s.pools (moved_by fllen sllen t s m).notes
       × FlexLeads fllen sllen t s (moved_by fllen sllen t s m).event (moved_by fllen sllen t s m).notes (moved_to fllen sllen t s m)
-  move_leads (allocates a) e = grind (arith, and_parts, AreAnswers-from, FlexAllocates-so)
-  move_leads (frees addr) e = (tt, free_leads addr (block_at s addr) refl e)
-  move_leads (gives_back n) e = (gone_answers t s.pools (take n s.pools), trim_leads n e)
+  move_leads (allocates a) e = grind (arith, and_parts, eqb-true, AreAnswers-from, FlexAllocates-so)
+  move_leads (frees addr) e = let leads = free_leads addr (block_at s addr) refl e in ((leads.leads.block, leads.leads.holds), tt, leads)
+  move_leads (gives_back n) e = (tt, gone_answers t s.pools (take n s.pools), trim_leads n e)
 
 -- calls that may be are a run
 pub RunsWith-all : (fllen sllen : ℕ) (t : Terms) (s : FlexState) (moves : List Move) → may_move_all fllen sllen t s moves ≡ true
@@ -214,5 +215,5 @@ pub RunsWith-all : (fllen sllen : ℕ) (t : Terms) (s : FlexState) (moves : List
 RunsWith-all fllen sllen t s [] e = refl
 RunsWith-all fllen sllen t s (m ∷ ms) e =
     let (here, rest) = and_parts (may_move fllen sllen t s m) (may_move_all fllen sllen t (moved_to fllen sllen t s m) ms) e in
-    let (answers, leads) = move_leads fllen sllen t s m here in
-    (moved_to fllen sllen t s m, answers, leads, RunsWith-all fllen sllen t (moved_to fllen sllen t s m) ms rest)
+    let (may, answers, leads) = move_leads fllen sllen t s m here in
+    (moved_to fllen sllen t s m, may, answers, leads, RunsWith-all fllen sllen t (moved_to fllen sllen t s m) ms rest)
