@@ -1,6 +1,7 @@
 -- How much room callers are sure to find, if they add up the bytes of their payloads' blocks.
 use Rattle.std.proofs.Common.{◌≡◌, ℕ, ◌+◌, ◌*◌, ◌/◌, ◌%◌, ◌<◌, ◌≤◌, Bool, eqb, not, cond, filter, List, [], ◌∷◌, Option, Some, None, arith, refl, sym}
 use Rattle.std.proofs.Common.{ap, subst}
+use Rattle.std.proofs.lemmas.Bool.Decides.{nat_tests}
 use Rattle.std.proofs.lemmas.List.Sums.{sum_by-cons}
 use Rattle.rlsf_base.specs.declared.memory.range.Range.{Range}
 use Rattle.rlsf_base.specs.PowerOfTwo.{IsPowerOfTwo}
@@ -79,9 +80,7 @@ module _ {fllen sllen : ℕ} {memory : Range} {s : State} (w : IsWellFormed flle
     -- and each call that takes no memory away keeps the budget
     pub budget_kept : (e : Event) → (IsRemoval e → ⊥) → Leads fllen sllen s e t → IsSizedForBudget sllen count bytes size align t.chunks
     unfolding IsSizedForBudget
-    budget_kept e left step =
-        let (fronts, are, room) = sized in
-        (fronts, AreFronts-kept fllen sllen s fronts are t e left step, room)
+    budget_kept e left step = grind (arith, AreFronts-kept)
 
 -- ---- a pool of the length that is computed
 

@@ -1,6 +1,7 @@
 -- Runs whose calls ask for little enough that none is refused.
 use Rattle.std.proofs.Common.{◌≡◌, ℕ, ◌+◌, ◌-◌, ◌*◌, ◌<◌, ◌≤◌, Bool, cond, eqb, not, filter, List, [], ◌∷◌, Option, Some, None, length, arith, refl, sym}
 use Rattle.std.proofs.Common.{◌∙◌, ap, subst, inl, inr}
+use Rattle.std.proofs.lemmas.Bool.Decides.{nat_tests}
 use Rattle.std.proofs.lemmas.List.{length-map}
 use Rattle.std.proofs.lemmas.List.Sums.{sum_by-cons}
 use Rattle.std.proofs.lemmas.List.Filters.{length-filter_both}
@@ -124,9 +125,7 @@ module _ (most : ℕ) {fllen sllen : ℕ} {memory : Range} {s : State} (w : IsWe
       still step.after (λ u. elim [ inl same ↦ subst (λ x. x.block.len ≤ most) (sym same) v_len | inr i ↦ small u i ])
 
   plan_modest : (u : Used) (size : ℕ) (p : Plan) → IsPowerOfTwo u.align → IsSoundPlan s u size p → request_size size u.align ≤ most → p.block.len ≤ most
-  plan_modest u size p power sound fits =
-      let whole = sound.whole in
-      omega (arith, sound.placed, sound.within, sound.few, whole.len, payload_of-le p.block.start u.align whole.start power)
+  plan_modest u size p power sound fits = grind (arith, payload_of-le)
 
 module _ (most : ℕ) {fllen sllen : ℕ} {memory : Range} {s : State} (w : IsWellFormed fllen sllen memory s) (small : AreAtMost most s.used) where
   reallocate_modest : (u : Used) → IsIn u s.used → (size : ℕ) → request_size size u.align ≤ most → (o : Option Plan) → plan s u size ≡ o
@@ -272,10 +271,7 @@ module _ (most : ℕ) where
 
   pub step_aligned : (live size n fllen sllen : ℕ) (s t : State) (e : Event) → AsksWithin live size most n e → AreAligned most s.used → Leads fllen sllen s e t
       → AreAligned most t.used
-  step_aligned live size n fllen sllen s t e within small step = aligned_after (given e within) (step_goes fllen sllen s t e step) small
-    where
-      given : (e : Event) → AsksWithin live size most n e → (m : ℕ) → IsGivenAlign s.used e m → m ≤ most
-      given e within m is = grind (arith, aligned_at)
+  step_aligned live size n fllen sllen s t e within small step = grind (arith, aligned_after, step_goes, aligned_at)
 
 -- ---- runs, by their calls alone
 

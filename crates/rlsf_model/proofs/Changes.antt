@@ -1,6 +1,7 @@
 -- Changes of the blocks of a state that leave it well-formed.
 use Rattle.std.proofs.Common.{◌≡◌, ◌≢◌, ℕ, ◌+◌, ◌-◌, ◌<◌, ◌≤◌, ◌⊎◌, cond, not, eqb, List, [], ◌∷◌, ◌++◌, true≢false, arith, refl}
 use Rattle.std.proofs.Common.{sym, ◌∙◌, ap, subst, inl, inr}
+use Rattle.std.proofs.lemmas.Bool.Decides.{nat_tests}
 use Rattle.std.proofs.lemmas.Bool.{cases_lt, lt-ltb, le-ltb, eq-eqb, eqb-true, ne_eqb}
 use Rattle.rlsf_base.specs.declared.memory.range.Range.{Range}
 use Rattle.rlsf_base.specs.Range.{end_of}
@@ -44,13 +45,7 @@ Holds-unique {s = s} w addr u v hu hv =
 
 pub IsIn-others : (addr : ℕ) (v : Used) (used : List Used) → IsIn v (others addr used) → IsIn v used × (v.payload ≢ addr)
 IsIn-others addr v [] h = absurd h
-IsIn-others addr v (x ∷ xs) h = by_test (eqb x.payload addr)
-    (λ e. let rest = IsIn-others addr v xs (subst (λ b. IsIn v (cond (not b) (x ∷ others addr xs) (others addr xs))) e h) in (inr rest.0, rest.1))
-    (λ e. let left : (v ≡ x) ⊎ IsIn v (others addr xs) = subst (λ b. IsIn v (cond (not b) (x ∷ others addr xs) (others addr xs))) e h in
-    elim left [
-      | inl same ↦ (inl same, λ at. true≢false (sym (eq-eqb x.payload addr (ap (λ u. u.payload) (sym same) ∙ at)) ∙ e))
-      | inr i ↦ let rest = IsIn-others addr v xs i in (inr rest.0, rest.1)
-    ])
+IsIn-others addr v (x ∷ xs) h = grind (arith, nat_tests, IsIn-others addr v xs)
 
 pub IsIn-others_from : (addr : ℕ) (v : Used) (used : List Used) → IsIn v used → v.payload ≢ addr → IsIn v (others addr used)
 IsIn-others_from addr v [] h apart = h

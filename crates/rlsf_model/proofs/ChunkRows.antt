@@ -1,6 +1,7 @@
 -- Rows of chunks over the steps.
 use Rattle.std.proofs.Common.{◌≡◌, ◌≢◌, ℕ, zero, suc, ◌+◌, ◌-◌, ◌*◌, ◌/◌, ◌<◌, ◌≤◌, List, [], ◌∷◌, ◌++◌, Option, Some, None, find}
 use Rattle.std.proofs.Common.{true≢false, arith, refl, sym, ◌∙◌, ap, subst, inl, inr}
+use Rattle.std.proofs.lemmas.Bool.Decides.{nat_tests}
 use Rattle.std.proofs.lemmas.Bool.{cases_lt, eq-eqb, eqb-true}
 use Rattle.rlsf_base.specs.declared.memory.range.Range.{Range}
 use Rattle.rlsf_base.specs.Range.{end_of, range_at}
@@ -29,9 +30,7 @@ IsAdjacent at (c ∷ cs) = (c.start ≡ at) × IsAdjacent (end_of c) cs
 IsAdjacent-adjacent : (n at len : ℕ) (cs : List Range) → IsAdjacent (at + n * len) cs → IsAdjacent at (adjacent at len n ++ cs)
 unfolding IsAdjacent
 IsAdjacent-adjacent zero at len cs h = let same : at + zero * len ≡ at = omega arith in subst (λ a. IsAdjacent a cs) same h
-IsAdjacent-adjacent (suc n) at len cs h =
-    let same : at + suc n * len ≡ at + len + n * len = omega arith in
-    (refl, IsAdjacent-adjacent n (at + len) len cs (subst (λ a. IsAdjacent a cs) same h))
+IsAdjacent-adjacent (suc n) at len cs h = grind (arith, IsAdjacent-adjacent n (at + len) len cs, IsAdjacent)
 
 IsAdjacent-remainder : (at len : ℕ) → IsAdjacent at (remainder at len)
 unfolding IsAdjacent
@@ -143,9 +142,7 @@ module _ {fllen sllen : ℕ} {memory : Range} {s : State} (w : IsWellFormed flle
   last_chunk = let (c, i, from, low, high, to) = row (end_of p - 1) (omega arith) (omega arith) in (c, i, from, omega arith)
 
   grown_if-longer : (n : ℕ) → 0 < n → (o : Option Range) → find (ends_at r.start) s.chunks ≡ o → IsRow (grown_if o n s) (range_at p.start (p.len + n))
-  grown_if-longer n more None found a low high =
-      let (c, i, from, to) = last_chunk in
-      absurd (true≢false (sym (eq-eqb (end_of c) r.start to) ∙ find-none (ends_at r.start) c s.chunks found i))
+  grown_if-longer n more None found a low high = grind (arith, nat_tests, last_chunk, find-none)
   grown_if-longer n more (Some d) found a low high =
       let is = find-some (ends_at r.start) d s.chunks found in
       let d_ends : end_of d ≡ r.start = eqb-true (end_of d) r.start is.1 in

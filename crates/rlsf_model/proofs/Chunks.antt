@@ -1,6 +1,7 @@
 -- What a step leaves of the chunks.
 use Rattle.std.proofs.Common.{◌≡◌, ℕ, zero, suc, ◌+◌, ◌*◌, ◌/◌, ◌%◌, ◌≤◌, ◌⊎◌, Bool, cond, List, [], ◌∷◌, Option, Some, None, find, arith}
 use Rattle.std.proofs.Common.{refl, sym, ◌∙◌, ap, subst, inl, inr}
+use Rattle.std.proofs.lemmas.Bool.Decides.{nat_tests}
 use Rattle.std.proofs.lemmas.Bool.{eqb-true}
 use Rattle.rlsf_base.specs.declared.memory.range.Range.{Range}
 use Rattle.rlsf_base.specs.Range.{end_of, range_at}
@@ -20,15 +21,7 @@ use Rattle.rlsf_model.proofs.Cuts.{IsIn-cut_within}
 -- without the element that was found, each other one is left
 pub IsIn-without_found : {A : Type 0} (p : A → Bool) (x y : A) (xs : List A) → find p xs ≡ Some x → IsIn y xs → (y ≡ x) ⊎ IsIn y (without p xs)
 IsIn-without_found p x y [] found h = absurd h
-IsIn-without_found p x y (z ∷ xs) found h = by_test (p z)
-    (λ e. let same : Some z ≡ Some x = sym (ap (λ b. cond b (Some z) (find p xs)) e) ∙ found in
-    let is : z ≡ x = cc in
-    elim h [ inl at ↦ inl (at ∙ is) | inr i ↦ inr (subst (λ b. IsIn y (cond b xs (z ∷ without p xs))) (sym e) i) ])
-    (λ e. let more : IsIn y (z ∷ without p xs) → IsIn y (without p (z ∷ xs)) = subst (λ b. IsIn y (cond b xs (z ∷ without p xs))) (sym e) in
-    elim h [
-      | inl at ↦ inr (more (inl at))
-      | inr i ↦ elim (IsIn-without_found p x y xs (sym (ap (λ b. cond b (Some z) (find p xs)) e) ∙ found) i) [ inl at ↦ inl at | inr j ↦ inr (more (inr j)) ]
-    ])
+IsIn-without_found p x y (z ∷ xs) found h = grind (arith, nat_tests, IsIn-without_found p x y xs)
 
 -- more chunks leave the old ones
 pub IsIn-with_chunks_old : (c : Range) (cs : List Range) (r : State) → IsIn c r.chunks → IsIn c (with_chunks cs r).chunks
@@ -101,10 +94,7 @@ chunks-filled s t addr bytes step = ap (λ x. x.chunks) step.after
 
 pub IsIn-with_chunks : (c : Range) (cs : List Range) (r : State) → IsIn c (with_chunks cs r).chunks → IsIn c cs ⊎ IsIn c r.chunks
 IsIn-with_chunks c [] r i = inr i
-IsIn-with_chunks c (d ∷ cs) r i = elim (IsIn-with_chunks c cs (with_chunk d r) i) [
-  | inl new ↦ inl (inr new)
-  | inr h ↦ elim h [ inl same ↦ inl (inl same) | inr old ↦ inr old ]
-]
+IsIn-with_chunks c (d ∷ cs) r i = grind (arith, IsIn-with_chunks c cs (with_chunk d r) i)
 
 pub inserted_chunks_lie_in_range : InsertedChunksLieInRange
 inserted_chunks_lie_in_range fllen s t r reply c step i =

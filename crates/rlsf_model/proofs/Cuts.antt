@@ -2,6 +2,7 @@
 use mathlib.Core.Path.{ap₂}
 use Rattle.std.proofs.Common.{◌≡◌, ℕ, zero, suc, ◌+◌, ◌-◌, ◌*◌, ◌/◌, ◌%◌, ◌^◌, ◌<◌, ◌≤◌, ◌⊎◌, cond, List, [], ◌∷◌, ◌++◌}
 use Rattle.std.proofs.Common.{Option, Some, None, arith, refl, sym, ap, subst, inl, inr, min, ◌∙◌}
+use Rattle.std.proofs.lemmas.Bool.Decides.{nat_tests}
 use Rattle.std.proofs.lemmas.Bool.{cases_lt, lt-ltb, le-ltb, le-leb, lt-leb}
 use Rattle.std.proofs.lemmas.Nat.{div_below, le-div, mod_below, div-add-mod', pow_pos, pow-add}
 use Rattle.std.proofs.Math.Nat.{div-mul-le_self}
@@ -25,9 +26,7 @@ pub record IsPiece (most : ℕ) (part c : Range) : Type 0 where
 
 IsIn-adjacent : (n at len : ℕ) → at % 32 ≡ 0 → len % 32 ≡ 0 → 64 ≤ len → (c : Range) → IsIn c (adjacent at len n) → IsPiece len (range_at at (n * len)) c
 IsIn-adjacent zero at len at32 len32 room c h = absurd h
-IsIn-adjacent (suc n) at len at32 len32 room c (inl same) =
-    subst (IsPiece len (range_at at (suc n * len))) (sym same)
-    (record { whole = record { start = at32; len = len32 }; from = omega arith; to = omega arith; room = room; short = omega arith })
+IsIn-adjacent (suc n) at len at32 len32 room c (inl same) = grind arith
 IsIn-adjacent (suc n) at len at32 len32 room c (inr h) =
     let rest = IsIn-adjacent n (at + len) len (omega arith) len32 room c h in
     record { whole = rest.whole; from = omega (arith, rest.from); to = omega (arith, rest.to); room = rest.room; short = rest.short }
@@ -167,15 +166,7 @@ module _ (at len most : ℕ) (wide : 64 ≤ most) where
       ∙ remainder-none (at + 0 * most) (len - 0 * most) (omega arith)
 
   cut_most-short : 64 ≤ len → len < most → cut (Some most) (range_at at len) ≡ range_at at len ∷ []
-  cut_most-short room short =
-      ap (λ q. adjacent at most q ++ remainder (at + q * most) (len - q * most)) (div-none len most (omega arith) short)
-      ∙ ap₂ (λ a n. remainder a n) same_at same_len ∙ remainder-one at len room
-    where
-      same_at : at + 0 * most ≡ at
-      same_at = omega arith
-
-      same_len : len - 0 * most ≡ len
-      same_len = omega arith
+  cut_most-short room short = grind (arith, div-none, remainder-one)
 
   cut_most-more : most ≤ len → cut (Some most) (range_at at len) ≡ range_at at most ∷ cut (Some most) (range_at (at + most) (len - most))
   cut_most-more fits =
@@ -209,28 +200,15 @@ chunks_are_cut_off_the_front fllen at len rows = elim (max_pool-cases fllen) [
 -- ---- where the last chunk ends
 
 end_of_last-adjacent : (n at len : ℕ) (more : List Range) → end_of_last at (adjacent at len n ++ more) ≡ end_of_last (at + n * len) more
-end_of_last-adjacent zero at len more = ap (λ a. end_of_last a more) same
-  where
-    same : at ≡ at + zero * len
-    same = omega arith
-end_of_last-adjacent (suc n) at len more = end_of_last-adjacent n (at + len) len more ∙ ap (λ a. end_of_last a more) same
-  where
-    same : at + len + n * len ≡ at + suc n * len
-    same = omega arith
+end_of_last-adjacent zero at len more = grind arith
+end_of_last-adjacent (suc n) at len more = grind (arith, end_of_last-adjacent n (at + len) len more)
 
 -- the range from an address to the last chunk's end
 abbrev to_last : ℕ → List Range → Range
 to_last at cs = range_at at (end_of_last at cs - at)
 
 coverage-remainder_last : (at len a : ℕ) → (at ≤ end_of_last at (remainder at len)) × (coverage itself (remainder at len) a ≤ covers (to_last at (remainder at len)) a)
-coverage-remainder_last at len a = elim (cases_lt len 64) [
-  | inl short ↦ subst (λ cs. (at ≤ end_of_last at cs) × (coverage itself cs a ≤ covers (to_last at cs) a)) (sym (remainder-none at len short)) (omega arith, omega arith)
-  | inr room ↦ subst (λ cs. (at ≤ end_of_last at cs) × (coverage itself cs a ≤ covers (to_last at cs) a)) (sym (remainder-one at len room))
-      (omega arith, subst (λ n. covers (range_at at len) a + 0 ≤ covers (range_at at n) a) whole (omega arith))
-]
-  where
-    whole : len ≡ at + len - at
-    whole = omega arith
+coverage-remainder_last at len a = grind (arith, nat_tests, remainder-none, remainder-one)
 
 -- no chunk that a part is cut into has an address behind the last chunk
 pub coverage-cut_last : (o : Option ℕ) (part : Range) (a : ℕ) → coverage itself (cut o part) a ≤ covers (to_last part.start (cut o part)) a

@@ -1,6 +1,7 @@
 -- The reference model, if its fresh bytes are all zero: its replies, computed, and that it is a run.
 use Rattle.std.proofs.Common.{◌≡◌, ℕ, ◌-◌, ◌^◌, ◌<◌, ◌≤◌, Bool, true, false, ◌&&◌, ◌||◌, leb, eqb, List, [], ◌∷◌, ◌++◌, length, take}
 use Rattle.std.proofs.Common.{replicate, min, Option, Some, None, find, true≢false, arith, refl, sym, ◌∙◌, inl, inr, length-append, length-take}
+use Rattle.std.proofs.lemmas.Bool.Decides.{nat_tests}
 use Rattle.std.specs.Option.{is_some}
 use Rattle.std.proofs.lemmas.Bool.{and_parts, or_cases, leb-true, eqb-true}
 use Rattle.std.proofs.lemmas.List.{length-replicate, take-append-le, take-take}
@@ -137,13 +138,7 @@ Keeps-refilled n old = grind (arith, length-refilled, take-take, take-append-le)
 -- what is_apart tests
 may_apart : (r : Range) (cs : List Range) → is_apart r cs ≡ true → (a : ℕ) → r.start ≤ a → a < end_of r → coverage itself cs a ≡ 0
 may_apart r [] e a low high = refl
-may_apart r (c ∷ cs) e a low high =
-    let (here, rest) = and_parts (leb (end_of r) c.start || leb (end_of c) r.start) (is_apart r cs) e in
-    let none : covers c a ≡ 0 = elim (or_cases (leb (end_of r) c.start) (leb (end_of c) r.start) here) [
-      | inl left ↦ covers-before c a (omega (arith, leb-true (end_of r) c.start left))
-      | inr right ↦ covers-behind c a (omega (arith, leb-true (end_of c) r.start right))
-    ] in
-    omega (arith, may_apart r cs rest a low high)
+may_apart r (c ∷ cs) e a low high = grind (arith, nat_tests, may_apart r cs, and_parts, covers-before, covers-behind)
 
 -- what is_vacant tests
 pub IsVacant-from : (memory : Range) (taken : List Range) (r : Range) → is_vacant memory taken r ≡ true → IsVacant memory taken r
@@ -156,13 +151,7 @@ allocate_step sllen s size align old (Some f) e = grind (arith, length-refilled)
 
 -- a block goes as planned
 pub replans_step : (s : State) (u : Used) (p : Plan) → Replans s u p p.payload (replanned s u p (refilled (end_of p.block - p.payload) u.bytes))
-replans_step s u p = record {
-  bytes = refilled (end_of p.block - p.payload) u.bytes;
-  answer = refl;
-  length = length-refilled (end_of p.block - p.payload) u.bytes;
-  kept = Keeps-refilled (end_of p.block - p.payload) u.bytes;
-  after = refl;
-}
+replans_step s u p = grind (arith, length-refilled, Keeps-refilled)
 
 module _ (fllen sllen : ℕ) (memory : Range) (s : State) where
   held : (addr : ℕ) (u : Used) → find (at addr) s.used ≡ Some u → Holds s addr u
@@ -215,7 +204,4 @@ module _ (fllen sllen : ℕ) (memory : Range) (s : State) where
 pub Runs-all : (fllen sllen : ℕ) (memory : Range) (s : State) (es : List Event) → may_call_all fllen sllen memory s es ≡ true
     → Runs fllen sllen memory s (all_events fllen sllen s es) (all_after fllen sllen s es)
 Runs-all fllen sllen memory s [] may = refl
-Runs-all fllen sllen memory s (c ∷ cs) may =
-    let (here, rest) = and_parts (may_call memory s c) (may_call_all fllen sllen memory (after fllen sllen s c) cs) may in
-    let one = step fllen sllen memory s c here in
-    (after fllen sllen s c, one.0, one.1, Runs-all fllen sllen memory (after fllen sllen s c) cs rest)
+Runs-all fllen sllen memory s (c ∷ cs) may = grind (arith, Runs-all fllen sllen memory (after fllen sllen s c) cs, and_parts, step)

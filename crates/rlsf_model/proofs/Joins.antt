@@ -1,6 +1,7 @@
 -- The range that a join makes, side by side.
 use Rattle.std.proofs.Common.{◌≡◌, ◌≢◌, ℕ, ◌+◌, ◌%◌, ◌<◌, ◌≤◌, Bool, List, Option, Some, None, find, true≢false, arith, refl, sym, ◌∙◌, ap}
 use Rattle.std.proofs.Common.{subst, inl, inr}
+use Rattle.std.proofs.lemmas.Bool.Decides.{nat_tests}
 use Rattle.std.proofs.lemmas.Bool.{eq-eqb, eqb-true}
 use Rattle.rlsf_base.specs.declared.memory.range.Range.{Range}
 use Rattle.rlsf_base.specs.Range.{end_of}
@@ -20,9 +21,7 @@ IsSound-without p free sound = grind (arith, IsIn-without)
 
 -- a range is known by its start and its end
 pub covers-same : (r s : Range) (a : ℕ) → r.start ≡ s.start → end_of r ≡ end_of s → covers r a ≡ covers s a
-covers-same r s a start end =
-    let none : covers (between (end_of s) (end_of s)) a ≡ 0 = covers-empty (between (end_of s) (end_of s)) a (omega arith) in
-    omega (arith, covers-split s.start (end_of s) (end_of s) a (omega arith) (omega arith) r s (between (end_of s) (end_of s)) start end refl refl refl (omega arith))
+covers-same r s a start end = grind (arith, covers-empty, covers-split)
 
 -- what the range before an address adds
 pub record IsLeft (at : ℕ) (free : List Range) (o : Option Range) : Type 0 where

@@ -1,6 +1,7 @@
 -- The laws of live payloads.
 use Rattle.std.proofs.Common.{◌≡◌, ◌≢◌, ◌⊎◌, ℕ, ◌+◌, ◌-◌, ◌%◌, ◌<◌, ◌≤◌, cond, eqb, filter, List, [], ◌∷◌, Option, Some, None}
 use Rattle.std.proofs.Common.{true≢false, arith, refl, sym, ◌∙◌, ap, subst, inl, inr}
+use Rattle.std.proofs.lemmas.Bool.Decides.{nat_tests}
 use Rattle.std.proofs.lemmas.Bool.{eq-eqb, eqb-true, ne_eqb}
 use Rattle.rlsf_base.specs.declared.memory.range.Range.{Range}
 use Rattle.rlsf_base.specs.PowerOfTwo.{IsPowerOfTwo}
@@ -27,9 +28,7 @@ use Rattle.rlsf_model.proofs.Tiling.{block_of, tiling_of, used-le, blocks-le, li
 use Rattle.rlsf_model.proofs.UsedBlocks.{stays, step_goes, was}
 
 pub live_addresses_are_aligned : LiveAddressesAreAligned
-live_addresses_are_aligned fllen sllen memory s addr align w (u, (i, at), is) =
-    let aligned = IsUsed-aligned u (w.used u i) in
-    subst (λ n. n % align ≡ 0) at (subst (λ n. u.payload % n ≡ 0) is aligned)
+live_addresses_are_aligned fllen sllen memory s addr align w (u, (i, at), is) = grind (arith, IsUsed-aligned)
 
 -- ---- one block an address
 

@@ -1,6 +1,7 @@
 -- The order of chunks and of used blocks means nothing.
 use Rattle.std.proofs.Common.{◌≡◌, ◌↔◌, ℕ, zero, suc, ◌+◌, ◌-◌, ◌*◌, ◌/◌, Bool, true, false, cond, not, eqb, filter, map, List, [], ◌∷◌, Option}
 use Rattle.std.proofs.Common.{Some, None, find, true≢false, arith, refl, sym, ◌∙◌, ap, subst, inl, inr}
+use Rattle.std.proofs.lemmas.Bool.Decides.{nat_tests}
 use Rattle.std.proofs.lemmas.Bool.{eqb-true}
 use Rattle.rlsf_base.specs.declared.memory.range.Range.{Range}
 use Rattle.rlsf_base.specs.Range.{end_of, range_at}
@@ -34,10 +35,7 @@ pub HasSame-filter : {A : Type 0} (p : A → Bool) (xs ys : List A) → HasSame 
 HasSame-filter p xs ys same x = grind (arith, IsIn-filter, IsIn-filter_from)
 
 HasSame-map : {A B : Type 0} (f : A → B) (xs ys : List A) → HasSame xs ys → HasSame (map f xs) (map f ys)
-HasSame-map {A} {B} f xs ys same y = (through xs ys (λ x. (same x).0), through ys xs (λ x. (same x).1))
-  where
-    through : (ks ls : List A) → ((x : A) → IsIn x ks → IsIn x ls) → IsIn y (map f ks) → IsIn y (map f ls)
-    through ks ls goes i = let (x, j, is) = IsIn-map_from f y ks i in subst (λ z. IsIn z (map f ls)) (sym is) (IsIn-map f x ls (goes x j))
+HasSame-map {A} {B} f xs ys same y = grind (arith, IsIn-map_from, IsIn-map)
 
 HasSame-others : (addr : ℕ) (xs ys : List Used) → HasSame xs ys → HasSame (others addr xs) (others addr ys)
 HasSame-others addr = HasSame-filter (λ u. not (eqb u.payload addr))

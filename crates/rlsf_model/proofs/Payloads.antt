@@ -1,6 +1,7 @@
 -- Where a payload lies in its block, and how long the block is.
 use Rattle.std.proofs.Common.{◌≡◌, ◌≢◌, ℕ, zero, suc, ◌+◌, ◌-◌, ◌*◌, ◌/◌, ◌%◌, ◌^◌, ◌<◌, ◌≤◌, List, [], ◌∷◌, Some, None, cond}
 use Rattle.std.proofs.Common.{not, arith, inl, inr, refl, sym, ◌∙◌, ap, subst}
+use Rattle.std.proofs.lemmas.Bool.Decides.{nat_tests}
 use Rattle.std.proofs.lemmas.Bool.{cases_lt, le-leb, ne_eqb}
 use Rattle.std.proofs.lemmas.Nat.{pow_pos, pow-add}
 use Rattle.std.proofs.Math.Nat.{div-add-mod'}
@@ -87,13 +88,7 @@ block_length-whole b p size = omega arith
 
 -- the block is not longer than what is sought
 pub block_length-request : (b size align : ℕ) → b % 32 ≡ 0 → IsPowerOfTwo align → block_length b (payload_of b align) size ≤ request_size size align
-block_length-request b size align whole power =
-    let p = payload_of b align in
-    let below : p ≤ b + 16 + (align - 16) = payload_of-le b align whole power in
-    rounded (p - b + size) (size + (align - 16) + 16) (omega arith)
-  where
-    rounded : (m n : ℕ) → m ≤ n → next_multiple_of m 32 ≤ next_multiple_of n 32
-    rounded m n order = omega arith
+block_length-request b size align whole power = grind (arith, payload_of-le)
 
 -- used blocks none of which has the address are all left without it
 pub others-none : (addr : ℕ) (used : List Used) → ((v : Used) → IsIn v used → v.payload ≢ addr) → others addr used ≡ used

@@ -1,6 +1,7 @@
 -- The plans of a reallocation: where a block and its payload can go.
 use Rattle.std.proofs.Common.{◌≡◌, ◌≢◌, ℕ, ◌+◌, ◌-◌, ◌%◌, ◌<◌, ◌≤◌, ◌⊎◌, Bool, true, false, cond, leb, List, [], ◌∷◌, ◌++◌}
 use Rattle.std.proofs.Common.{Option, Some, None, find, length, arith, refl, sym, ap, subst, inl, inr}
+use Rattle.std.proofs.lemmas.Bool.Decides.{nat_tests}
 use Rattle.std.proofs.lemmas.Bool.{cases_lt, lt-ltb, le-ltb, leb-true}
 use Rattle.rlsf_base.specs.declared.memory.range.Range.{Range}
 use Rattle.rlsf_base.specs.Range.{end_of}
@@ -175,10 +176,7 @@ module _ {fllen sllen : ℕ} {memory : Range} {s : State} (w : IsWellFormed flle
   tested b q p sound e = grind arith
 
   pub IsSound-in_place : (p : Plan) → in_place s u size ≡ Some p → IsSoundPlan s u size p
-  IsSound-in_place p e =
-      tested (leb (end_of (resized u size)) (end_of u.block)) (record { block = resized u size; payload = u.payload; free = tail_joined (resized u size) (end_of u.block) s.free })
-      p
-      (λ fits. in_place_sound (leb-true (end_of (resized u size)) (end_of u.block) fits)) e
+  IsSound-in_place p e = grind (arith, nat_tests, tested, in_place_sound)
 
   pub IsSound-into_next : (p : Plan) → into_next s u size ≡ Some p → IsSoundPlan s u size p
   IsSound-into_next p e = grind (arith, tested, into_next_sound, leb-true)

@@ -31,9 +31,7 @@ gaps count size n len short = omega arith
 
 pub HasBudget-reached : (count size sllen least : ℕ) (c : Range) → IsSize least → Reaches sllen (class_of sllen least) size → payloads_length count size least ≤ c.len
     → HasBudget count size sllen (c ∷ [])
-HasBudget-reached count size sllen least c is reaches long =
-    let all : c.len ≡ total_len (c ∷ []) = omega (arith, sum_by-cons (λ (r : Range). r.len) c []) in
-    record { least = least; taken = record { is = is; reaches = reaches }; enough = gaps count size (least - 32) (total_len (c ∷ [])) (omega (arith, long, all, is.0, is.1)) }
+HasBudget-reached count size sllen least c is reaches long = grind (arith, sum_by-cons, gaps)
 
 pub HasBudget-pool : {fllen : ℕ} (count size sllen len : ℕ) (c : Range) → IsPayloadPool fllen sllen count size len → len ≤ c.len → HasBudget count size sllen (c ∷ [])
 HasBudget-pool count size sllen len c pool long = HasBudget-reached count size sllen pool.least c pool.is pool.reaches (omega (arith, pool.length, long))
@@ -87,17 +85,13 @@ IsUniform-idle {fllen} {sllen} {memory} {s} w c len idle alone = record {
 }
 
 request_size-object : (block asked align : ℕ) → block % 32 ≡ 0 → 0 < block → asked ≡ block - 16 → align ≤ 16 → request_size asked align ≡ block
-request_size-object block asked align whole some is small =
-    let sum : asked + (align - 16) + 16 ≡ block = omega arith in
-    ap round32 sum ∙ round32-same block whole
+request_size-object block asked align whole some is small = grind (arith, round32-same)
 
 asks_uniformly : (block asked : ℕ) → block % 32 ≡ 0 → 0 < block → asked ≡ block - 16 → (e : Event) → AsksForObject asked e → AsksUniformly block e
 asks_uniformly block asked whole some is e asks = grind (arith, request_size-object)
 
 blocks_in-pool : (count block : ℕ) (c : Range) → 0 < block → c.len ≡ count * block + 32 → blocks_in block c ≡ count
-blocks_in-pool count block c some is =
-    let sum : c.len - 32 ≡ count * block + 0 = omega arith in
-    ap (λ n. n / block) sum ∙ div-mul-add count block 0 some
+blocks_in-pool count block c some is = grind (arith, div-mul-add)
 
 pub object_pool_is_exact : ObjectPoolIsExact
 object_pool_is_exact fl_bits sl_bits fllen sllen count size len asked memory s t c es valid w told idle alone long run asks =

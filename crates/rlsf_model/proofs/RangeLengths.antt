@@ -1,6 +1,7 @@
 -- How long a range is asked for, and that a pool has room in what comes.
 use Rattle.std.proofs.Common.{◌≡◌, ◌⊎◌, ℕ, ◌+◌, ◌-◌, ◌*◌, ◌/◌, ◌%◌, ◌^◌, ◌≤◌, Bool, true, false, cond, List, Option, Some, None, arith}
 use Rattle.std.proofs.Common.{sym, ◌∙◌, ap, inl, inr}
+use Rattle.std.proofs.lemmas.Bool.Decides.{nat_tests}
 use Rattle.std.proofs.lemmas.Bool.{cases_lt, le-ltb, lt-ltb}
 use Rattle.std.proofs.lemmas.Nat.{pow-add}
 use Rattle.std.proofs.lemmas.Option.{none-some, same_Some}
@@ -39,10 +40,4 @@ HasAlignedPart-given t owed e len r told g = grind (arith, range_length-is, wide
 -- a range that is asked for has that length
 pub range_asked : (t : Terms) (kept : Option KeptPool) (e n : ℕ) → (questions_for t kept e).range ≡ Some n → range_length t e ≡ Some n
 range_asked t None e n asked = asked
-range_asked t (Some k) e n asked = go (if_fits (k.len + e)) asked
-  where
-    unless : (b : Bool) → cond b None (range_length t e) ≡ Some n → range_length t e ≡ Some n
-    unless b asked = grind (arith, none-some)
-
-    go : (o : Option ℕ) → (questions_kept t k e o).range ≡ Some n → range_length t e ≡ Some n
-    go o asked = grind (arith, none-some, unless)
+range_asked t (Some k) e n asked = grind (arith, nat_tests, none-some)

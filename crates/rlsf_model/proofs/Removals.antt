@@ -1,6 +1,7 @@
 -- What a removal leaves.
 use Rattle.std.proofs.Common.{◌≡◌, ◌⊎◌, ℕ, ◌+◌, ◌≤◌, ◌<◌, true, false, not, ◌&&◌, leb, List, true≢false, arith, refl, sym, ◌∙◌, ap, subst}
 use Rattle.std.proofs.Common.{inl, inr}
+use Rattle.std.proofs.lemmas.Bool.Decides.{nat_tests}
 use Rattle.std.proofs.lemmas.Bool.{cases_lt, le-leb, lt-leb}
 use Rattle.rlsf_base.specs.declared.memory.range.Range.{Range}
 use Rattle.rlsf_base.specs.Range.{end_of}
@@ -23,14 +24,10 @@ lies_within-true r c is = grind (arith, cases_lt, true≢false, lt-leb, le-leb)
 
 -- what is left is of the ranges, and doesn't lie in r
 pub IsIn-outside : (r x : Range) (xs : List Range) → IsIn x (outside_of r xs) → IsIn x xs × (lies_within r x ≡ false)
-IsIn-outside r x xs i =
-    let (j, passes) = IsIn-filter (λ c. not (lies_within r c)) x xs i in
-    (j, by_test (lies_within r x) (λ e. absurd (true≢false (sym passes ∙ ap not e))) (λ e. e))
+IsIn-outside r x xs i = grind (arith, nat_tests, IsIn-filter)
 
 pub IsIn-outside_from : (r x : Range) (xs : List Range) → IsIn x xs → ((r.start ≤ x.start) × (end_of x ≤ end_of r)) ⊎ IsIn x (outside_of r xs)
-IsIn-outside_from r x xs i = by_test (lies_within r x)
-    (λ e. inl (lies_within-true r x e))
-    (λ e. inr (IsIn-filter_from (λ c. not (lies_within r c)) x xs i (ap not e)))
+IsIn-outside_from r x xs i = grind (arith, nat_tests, lies_within-true, IsIn-filter_from)
 
 -- what is taken out has no byte that r doesn't have
 pub coverage-outside : (range : Range → Range) (r : Range) (xs : List Range) (a : ℕ) → ((x : Range) → IsIn x xs → covers (range x) a ≤ covers x a) → covers r a ≡ 0
@@ -99,11 +96,7 @@ module _ {fllen sllen : ℕ} {memory : Range} {s : State} (w : IsWellFormed flle
   tiled_after a = grind (arith, coverage-outside, last_within, where_is, free_clear, chunks_clear)
 
   disjoint_after : (a : ℕ) → coverage itself (outside_of r s.chunks) a ≤ 1
-  disjoint_after a = elim (where_is r a) [
-    | inside one low high ↦ omega (arith, chunks_clear itself (λ c b i. omega arith) a low high)
-    | before none low ↦ omega (arith, w.disjoint a, coverage-outside itself r s.chunks a (λ x i. omega arith) none)
-    | behind none high ↦ omega (arith, w.disjoint a, coverage-outside itself r s.chunks a (λ x i. omega arith) none)
-  ]
+  disjoint_after a = grind (arith, where_is, chunks_clear, coverage-outside)
 
   -- a removal keeps a state well-formed
   pub Removes-keeps : (t : State) → Removes s r t → IsWellFormed fllen sllen memory t

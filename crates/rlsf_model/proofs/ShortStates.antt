@@ -1,6 +1,7 @@
 -- States on the way to a refusal in a chunk that is too short, and the steps between them.
 use Rattle.std.proofs.Common.{◌≡◌, ℕ, ◌+◌, ◌-◌, ◌*◌, ◌/◌, ◌%◌, ◌<◌, ◌≤◌, ◌⊎◌, [], ◌∷◌, Option, Some, None, cond, arith, refl, sym}
 use Rattle.std.proofs.Common.{◌∙◌, ap, subst, inl, inr}
+use Rattle.std.proofs.lemmas.Bool.Decides.{nat_tests}
 use Rattle.std.proofs.lemmas.Bool.{cases_lt, le-leb}
 use Rattle.std.proofs.Math.Nat.{div-add-mod', mod-lt, mul-le-mul_right}
 use Rattle.rlsf_base.specs.declared.memory.range.Range.{Range}
@@ -183,9 +184,7 @@ pub record AreAsked (most size : ℕ) (asks : ℕ → ℕ) : Type 0 where
   pub small : (len : ℕ) → IsSize len → len ≤ most → asks len ≤ size
 
 pub asked : (z len : ℕ) → round32 (z + 16) ≡ len → request_size z 1 ≡ len
-asked z len seeks =
-    let sum : z + (1 - 16) + 16 ≡ z + 16 = omega arith in
-    ap round32 sum ∙ seeks
+asked z len seeks = grind arith
 
 -- a used block of so many bytes, with its payload 16 bytes behind its start
 pub record IsPlain (from len : ℕ) (u : Used) : Type 0 where

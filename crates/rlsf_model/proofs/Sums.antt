@@ -1,6 +1,7 @@
 -- Numbers of ranges and of bytes, counted address by address.
 use Rattle.std.proofs.Common.{◌≡◌, ℕ, zero, None, suc, ◌+◌, ◌-◌, ◌*◌, ◌<◌, ◌≤◌, ◌⊎◌, List, [], ◌∷◌, length, arith, refl, ap, subst, inl}
 use Rattle.std.proofs.Common.{inr}
+use Rattle.std.proofs.lemmas.Bool.Decides.{nat_tests}
 use Rattle.std.specs.Prelude.{sum_by}
 use Rattle.std.proofs.lemmas.Bool.{cases_lt}
 use Rattle.std.proofs.lemmas.List.Sums.{sum_by-cons}
@@ -46,11 +47,7 @@ total-zero (suc n) = omega (arith, total-zero n)
 -- how many addresses below n a range has
 total-covers : (n : ℕ) (r : Range) → total n (covers r) ≡ (n - r.start) - (n - end_of r)
 total-covers zero r = omega arith
-total-covers (suc n) r = let rest = total-covers n r in elim (where_is r n) [
-  | inside one low high ↦ omega arith
-  | before none low ↦ omega arith
-  | behind none high ↦ omega arith
-]
+total-covers (suc n) r = grind (arith, total-covers n r, where_is)
 
 module _ {A : Type 0} (range : A → Range) where
   -- below an address past all of them, ranges have as many addresses as they are long together

@@ -1,6 +1,7 @@
 -- An inserted range, complete except for some bytes at its ends, makes the awaited allocation succeed.
 use Rattle.std.proofs.Common.{◌≡◌, ℕ, zero, suc, ◌+◌, ◌-◌, ◌*◌, ◌/◌, ◌%◌, ◌<◌, ◌≤◌, List, Option, Some, None, find, true≢false, arith, refl}
 use Rattle.std.proofs.Common.{sym, ◌∙◌, ap, subst, inl, inr}
+use Rattle.std.proofs.lemmas.Bool.Decides.{nat_tests}
 use Rattle.std.proofs.lemmas.Bool.{cases_lt, eq-eqb, eqb-true}
 use Rattle.std.proofs.lemmas.Option.{none-some, same_Some}
 use Rattle.rlsf_base.specs.declared.memory.range.Range.{Range}
@@ -76,9 +77,7 @@ record IsPartOf (e : ℕ) (r part : Range) : Type 0 where
   long : e ≤ part.len
 
 IsPartOf-aligned_part : (e : ℕ) (r : Range) → 64 ≤ e → e % 32 ≡ 0 → HasAlignedPart r e → IsPartOf e r (aligned_part r)
-IsPartOf-aligned_part e r room whole has =
-    let long : e ≤ (aligned_part r).len = elim has [ inl spare ↦ omega arith | inr (begins, enough) ↦ omega arith ] in
-    record { from = omega arith; to = omega arith; nearly = omega arith; long = long }
+IsPartOf-aligned_part e r room whole has = grind arith
 
 cut_pool : (e end : ℕ) (s : State) (r part : Range) (cs : List Range) → IsPartOf e r part → AreCutFrom e part end cs
     → IsTaken s r (end - r.start) (with_chunks cs s) × HasFreePool e (with_chunks cs s)

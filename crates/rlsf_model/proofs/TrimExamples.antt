@@ -1,6 +1,7 @@
 -- The reference model over a source with trims: its replies and the ranges that it returns, computed, and that they are a run.
 use Rattle.std.proofs.Common.{◌≡◌, ℕ, ◌+◌, ◌-◌, ◌<◌, ◌≤◌, Bool, true, false, ◌&&◌, ◌||◌, cond, leb, eqb, length, map, max, List, [], ◌∷◌}
 use Rattle.std.proofs.Common.{◌++◌, Option, Some, None, find, take, drop, true≢false, arith, refl, sym, ◌∙◌, ap, subst, inl, inr}
+use Rattle.std.proofs.lemmas.Bool.Decides.{nat_tests}
 use Rattle.std.specs.Option.{is_some}
 use Rattle.std.proofs.lemmas.Bool.{and_parts, eqb-true, leb-true}
 use Rattle.std.proofs.lemmas.List.{take-append-drop}
@@ -135,18 +136,11 @@ or_parts false b e first second = second e
 
 is_idle-from : (r : Range) (used : List Used) → is_idle r used ≡ true → (a : ℕ) → r.start ≤ a → a < end_of r → coverage block_of used a ≡ 0
 is_idle-from r [] e a low high = refl
-is_idle-from r (u ∷ used) e a low high =
-    let (off, rest) = and_parts (leb (end_of u.block) r.start || leb (end_of r) u.block.start) (is_idle r used) e in
-    let none : covers u.block a ≡ 0 = or_parts (leb (end_of u.block) r.start) (leb (end_of r) u.block.start) off
-    (λ f. covers-behind u.block a (omega (arith, leb-true (end_of u.block) r.start f)))
-    (λ f. covers-before u.block a (omega (arith, leb-true (end_of r) u.block.start f))) in
-    omega (arith, none, is_idle-from r used rest a low high)
+is_idle-from r (u ∷ used) e a low high = grind (arith, nat_tests, is_idle-from r used, and_parts, or_parts, covers-behind, covers-before)
 
 are_idle-from : (s : State) (ranges : List Range) → are_idle ranges s.used ≡ true → (r : Range) → IsIn r ranges → IsIdle s r
 are_idle-from s [] e r i = absurd i
-are_idle-from s (q ∷ ranges) e r i =
-    let (first, rest) = and_parts (is_idle q s.used) (are_idle ranges s.used) e in
-    elim i [ inl same ↦ subst (IsIdle s) (sym same) (is_idle-from q s.used first) | inr j ↦ are_idle-from s ranges rest r j ]
+are_idle-from s (q ∷ ranges) e r i = grind (arith, are_idle-from s ranges, and_parts, is_idle-from)
 
 is_held-from : (r : Range) (used : List Used) → is_held r used ≡ true → (a : ℕ) × (r.start ≤ a) × (a < end_of r) × (1 ≤ coverage block_of used a)
 is_held-from r [] e = absurd (true≢false (sym e))
@@ -163,24 +157,12 @@ is_newest_held-from s l e = grind (arith, is_held-from)
 
 last_end-le : (r : Range) (cs : List Range) (c : Range) → IsIn c cs → r.start ≤ c.start → end_of c ≤ end_of r → end_of c ≤ last_end r cs
 last_end-le r [] c i low high = absurd i
-last_end-le r (d ∷ cs) c i low high = by_test (lies_within r d)
-    (λ e. let is : last_end r (d ∷ cs) ≡ max (end_of d) (last_end r cs) = ap (λ b. cond b (max (end_of d) (last_end r cs)) (last_end r cs)) e in
-    elim i [
-      | inl same ↦ let end : end_of c ≡ end_of d = ap end_of {x = c} same in omega arith
-      | inr j ↦ omega (arith, last_end-le r cs c j low high)
-    ])
-    (λ e. let is : last_end r (d ∷ cs) ≡ last_end r cs = ap (λ b. cond b (max (end_of d) (last_end r cs)) (last_end r cs)) e in
-    elim i [
-      | inl same ↦ absurd (true≢false (sym (lies_within-le r c low high) ∙ ap (lies_within r) same ∙ e))
-      | inr j ↦ omega (arith, last_end-le r cs c j low high)
-    ])
+last_end-le r (d ∷ cs) c i low high = grind (arith, nat_tests, last_end-le r cs c, lies_within-le)
 
 ends_in-from : (r : Range) (a : ℕ) (cs : List Range) → ends_in r a cs ≡ true
     → (c : Range) × IsIn c cs × (r.start ≤ c.start) × (end_of c ≤ end_of r) × (end_of c ≡ a)
 ends_in-from r a [] e = absurd (true≢false (sym e))
-ends_in-from r a (c ∷ cs) e = or_parts (lies_within r c && eqb (end_of c) a) (ends_in r a cs) e
-    (λ f. let (lies, at) = and_parts (lies_within r c) (eqb (end_of c) a) f in let (low, high) = lies_within-true r c lies in (c, inl refl, low, high, eqb-true (end_of c) a at))
-    (λ f. let (d, i, low, high, at) = ends_in-from r a cs f in (d, inr i, low, high, at))
+ends_in-from r a (c ∷ cs) e = grind (arith, nat_tests, ends_in-from r a cs, or_parts, and_parts, lies_within-true)
 
 has_last-from : (chunks ranges : List Range) → has_last chunks ranges ≡ true → IsKeptToLast chunks ranges (kept_of chunks ranges)
 has_last-from chunks l e = grind (arith, and_parts, leb-true, ends_in-from, last_end-le)
@@ -213,7 +195,4 @@ module _ (fllen sllen : ℕ) (t : Terms) (s : FlexState) where
 pub RunsWith-all : (fllen sllen : ℕ) (t : Terms) (s : FlexState) (moves : List Move) → may_move_all fllen sllen t s moves ≡ true
     → RunsWith fllen sllen t s (all_moved_by fllen sllen t s moves) (all_moved_to fllen sllen t s moves)
 RunsWith-all fllen sllen t s [] e = refl
-RunsWith-all fllen sllen t s (m ∷ ms) e =
-    let (here, rest) = and_parts (may_move fllen sllen t s m) (may_move_all fllen sllen t (moved_to fllen sllen t s m) ms) e in
-    let (may, answers, leads) = move_leads fllen sllen t s m here in
-    (moved_to fllen sllen t s m, may, answers, leads, RunsWith-all fllen sllen t (moved_to fllen sllen t s m) ms rest)
+RunsWith-all fllen sllen t s (m ∷ ms) e = grind (arith, RunsWith-all fllen sllen t (moved_to fllen sllen t s m) ms, and_parts, move_leads)

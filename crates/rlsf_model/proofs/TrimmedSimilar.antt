@@ -33,12 +33,7 @@ gone-same {s} r [] left (q ∷ gone') left' e idle idle' held held' =
     absurd (subst (IsNewestHeld s) e held (idle-similar (AreSimilar-sym r) q (idle' q (inl refl))))
 gone-same {s' = s'} r (q ∷ gone) left [] left' e idle idle' held held' =
     absurd (subst (IsNewestHeld s') (sym e) held' (idle-similar r q (idle q (inl refl))))
-gone-same r (q ∷ gone) left (q' ∷ gone') left' e idle idle' held held' =
-    let first : q ≡ q' = cc in
-    let others : gone ++ left ≡ gone' ++ left' = cc in
-    let rest = gone-same r gone left gone' left' others (λ x i. idle x (inr i)) (λ x i. idle' x (inr i)) held held' in
-    let both : q ∷ gone ≡ q' ∷ gone' = let more = rest.0 in cc in
-    (both, rest.1)
+gone-same r (q ∷ gone) left (q' ∷ gone') left' e idle idle' held held' = grind (arith, gone-same r gone left gone' left')
 
 all_removed-similar : (gone : List Range) (s s' : State) → AreSimilar s s' → AreSimilar (all_removed gone s) (all_removed gone s')
 all_removed-similar [] s s' r = r

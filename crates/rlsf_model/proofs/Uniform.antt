@@ -1,6 +1,7 @@
 -- States whose blocks all have one length.
 use Rattle.std.proofs.Common.{◌≡◌, ℕ, zero, suc, ◌+◌, ◌-◌, ◌*◌, ◌/◌, ◌%◌, ◌^◌, ◌<◌, ◌≤◌, ◌⊎◌, ◌↔◌, List, [], ◌∷◌}
 use Rattle.std.proofs.Common.{Option, Some, None, find, length, arith, refl, sym, ◌∙◌, ap, subst, inl, inr}
+use Rattle.std.proofs.lemmas.Bool.Decides.{nat_tests}
 use Rattle.std.specs.Prelude.{sum_by}
 use Rattle.std.proofs.lemmas.Bool.{cases_lt}
 use Rattle.std.proofs.lemmas.List.Sums.{sum_by-cons}
@@ -141,9 +142,7 @@ block_length-pow (suc (suc (suc (suc (suc zero))))) b size few whole = omega ari
 block_length-pow (suc (suc (suc (suc (suc (suc k)))))) b size few whole = absurd (omega arith)
 
 block_length-exact : (b size align : ℕ) → b % 32 ≡ 0 → IsPowerOfTwo align → align ≤ 32 → block_length b (payload_of b align) size ≡ request_size size align
-block_length-exact b size align whole power small =
-    subst (λ n. block_length b (payload_of b n) size ≡ request_size size n) (sym power)
-    (block_length-pow (floor_log2 align) b size (floor_log2-mono align 32 (IsPowerOfTwo-positive align power) small) whole)
+block_length-exact b size align whole power small = grind (arith, block_length-pow, floor_log2-mono, IsPowerOfTwo-positive)
 
 pub allocation_keeps_uniform : AllocationKeepsUniform
 allocation_keeps_uniform fllen sllen memory s t c size align None w power small is step = subst (IsUniform (request_size size align) c) (sym step.1) is
