@@ -19,7 +19,7 @@ use Rattle.rlsf_model.proofs.Live.{live_addresses_are_aligned, payloads_are_disj
 use Rattle.rlsf_model_global.specs.Heap.{Agrees, Heap, Lists, content_at, layout_at, row_layout}
 use Rattle.rlsf_model_global.specs.Left.{AllocationLeaves, DeallocationLeaves, HasByte, HeapPayloadsAreApart, PayloadsServe, ReadTells, WriteLeaves}
 use Rattle.rlsf_model_global.specs.Rows.{Row, put, row_at}
-use Rattle.rlsf_model_global.specs.Steps.{DeallocatesAt, DeallocatesAsAt, Done, ReadsAt, Releases, WritesAt, WritesIn, are_usable, is_same}
+use Rattle.rlsf_model_global.specs.Steps.{DeallocatesAt, DeallocatesAsAt, ReadsAt, Releases, WritesAt, WritesIn, are_usable, is_same}
 use Rattle.rlsf_model_global.specs.declared.error.GlobalError.TheVariants.{OutOfRange, WrongLayout}
 use Rattle.rlsf_model_global.proofs.StepLeavesFlex.{flex_goes}
 use Rattle.rlsf_model_global.proofs.StepLeavesHeap.{no_row}

@@ -12,14 +12,14 @@ use Rattle.rlsf_model.specs.Run.{reallocate as machine_reallocates}
 use Rattle.rlsf_model.specs.FlexState.{with_machine}
 use Rattle.rlsf_model.proofs.CallerWords.{bytes_at-map}
 use Rattle.rlsf_model.proofs.NoMove.{unmoved_is_reallocated}
-use Rattle.rlsf_model_global.specs.declared.error.GlobalError.TheVariants.{NoRoom, OutOfRange, TableMemory, WrongLayout}
+use Rattle.rlsf_model_global.specs.declared.error.GlobalError.TheVariants.{NoRoom, TableMemory}
 use Rattle.rlsf_model_global.specs.Heap.{Heap, content_at, layout_at, row_layout, with_state}
 use Rattle.rlsf_model_global.specs.History.{IsPlacedAt, LeadsTo, Names, Step, allocate, deallocate, deallocate_as, reallocate, reallocate_as, reallocate_there, read, usable, write}
 use Rattle.rlsf_model_global.specs.Isolation.{HistoriesKeepHeap, IsSameAt, StepsKeepHeap, UnnamedStays, UnnamedStaysThroughout}
-use Rattle.rlsf_model_global.specs.Moves.{HeapMovesAway, ReallocatesAsAt, ReallocatesAt, ReallocatesThereAt, ReallocatesTo, HeapResizesThere, ResizesTo, Wanted}
+use Rattle.rlsf_model_global.specs.Moves.{HeapMovesAway, ReallocatesAsAt, ReallocatesAt, ReallocatesThereAt, ReallocatesTo, HeapResizesThere, ResizesTo}
 use Rattle.rlsf_model_global.specs.Rows.{Row, put, row_at, without_row}
 use Rattle.rlsf_model_global.specs.Standing.{IsHeap}
-use Rattle.rlsf_model_global.specs.Steps.{DeallocatesAsAt, DeallocatesAt, Done, Placed, Releases, WritesAt, WritesIn, are_usable, is_same}
+use Rattle.rlsf_model_global.specs.Steps.{DeallocatesAsAt, DeallocatesAt, Done, Placed, WritesAt, are_usable, is_same}
 use Rattle.rlsf_model_global.proofs.StepLeavesFlex.{flex_goes}
 use Rattle.rlsf_model_global.proofs.StepLeavesHeap.{Goes, Stays, allocated, released, replaced, resized, row_lives, stays_all, written}
 

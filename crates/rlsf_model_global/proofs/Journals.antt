@@ -1,11 +1,11 @@
 -- The journal of some steps determines its answers and the placement.
-use Rattle.std.proofs.Common.{◌≡◌, Bool, true, false, if◌then◌else◌, true≢false, length, ℕ, List, [], ◌∷◌, ◌++◌, Option, Some, None, Ok, Err, refl, sym}
+use Rattle.std.proofs.Common.{◌≡◌, Bool, true, false, if◌then◌else◌, true≢false, length, ℕ, List, [], ◌∷◌, ◌++◌, Option, Some, None, Err, refl, sym}
 use Rattle.std.proofs.Common.{◌∙◌, ap, subst}
 use Rattle.rlsf_base.specs.declared.memory.range.Range.{Range}
 use Rattle.rlsf_model.proofs.Similar.{fill_is_similar}
-use Rattle.rlsf_model_global.specs.declared.error.GlobalError.TheVariants.{OutOfRange, TableMemory}
+use Rattle.rlsf_model_global.specs.declared.error.GlobalError.TheVariants.{TableMemory}
 use Rattle.rlsf_model_global.specs.Heap.{HaveSamePlacement, Heap, beginning}
-use Rattle.rlsf_model_global.specs.History.{IsHistory, LeadsTo, Step, allocate, deallocate, deallocate_as, reallocate, reallocate_as, reallocate_there, read, usable, write}
+use Rattle.rlsf_model_global.specs.History.{IsHistory, LeadsTo, Step, allocate, read, usable, write}
 use Rattle.rlsf_model_global.specs.Replays.{AreSameAnswers, HaveSameCalls, HasSameCall, JournalDetermines, LacksMemory, OthersKeepPlacement, ReplayBegins, ReplaysDetermine}
 use Rattle.rlsf_model_global.specs.Replays.{ReplayGoesOn, is_entry, journal_of}
 use Rattle.rlsf_model_global.specs.Rows.{Row, row_at}

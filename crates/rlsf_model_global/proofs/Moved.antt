@@ -1,5 +1,5 @@
 -- What reallocations leave.
-use Rattle.std.proofs.Common.{◌≡◌, ◌≢◌, ℕ, ◌≤◌, Bool, true, false, cond, eqb, length, min, take, drop, List, [], Option, Some, None, Ok, Err, arith}
+use Rattle.std.proofs.Common.{◌≡◌, ◌≢◌, ℕ, ◌≤◌, Bool, true, false, cond, eqb, length, min, take, drop, List, [], Option, Some, None, Ok, arith}
 use Rattle.std.proofs.Common.{refl, sym, ◌∙◌, ap, subst, inl}
 use Rattle.std.proofs.lemmas.Bool.{and_parts, eqb-true}
 use Rattle.std.proofs.lemmas.List.{length-take-le, take_at}
@@ -19,10 +19,10 @@ use Rattle.rlsf_model.proofs.CallerWords.{bytes_at-told}
 use Rattle.rlsf_model.proofs.NoMove.{unmoved_is_reallocated}
 use Rattle.rlsf_model_global.specs.Heap.{Agrees, Heap, Lists, content_at, layout_at, row_layout, with_state}
 use Rattle.rlsf_model_global.specs.Left.{IsMoved, IsMovedTo, ReallocationAsLeaves, ReallocationLeaves, ReallocationThereLeaves, in_both}
-use Rattle.rlsf_model_global.specs.Moves.{ReallocatesAsAt, ReallocatesAt, ReallocatesThereAt, ReallocatesTo, Replaces, HeapResizesThere, Wanted}
+use Rattle.rlsf_model_global.specs.Moves.{ReallocatesAsAt, ReallocatesAt, ReallocatesThereAt, ReallocatesTo, Replaces, HeapResizesThere}
 use Rattle.rlsf_model_global.specs.Rows.{Row, put, row_at, without_row}
 use Rattle.rlsf_model_global.specs.Standing.{IsHeap}
-use Rattle.rlsf_model_global.specs.Steps.{Placed, is_same}
+use Rattle.rlsf_model_global.specs.Steps.{is_same}
 use Rattle.rlsf_model_global.specs.declared.error.GlobalError.TheVariants.{WrongLayout}
 use Rattle.rlsf_model_global.proofs.StepLeavesFlex.{FlexGoes, flex_goes}
 use Rattle.rlsf_model_global.proofs.StepLeavesHeap.{replacement, row_lives}

@@ -8,22 +8,19 @@ use Rattle.rlsf_base.specs.PowerOfTwo.{IsPowerOfTwo}
 use Rattle.rlsf_base.specs.declared.memory.layout.Layout.{Layout}
 use Rattle.rlsf_base.specs.declared.memory.range.Range.{Range}
 use Rattle.rlsf_model.specs.Callers.{bytes_at}
-use Rattle.rlsf_model.specs.FlexAllocate.{FlexAllocates}
-use Rattle.rlsf_model.specs.FlexReallocate.{FlexReallocates}
 use Rattle.rlsf_model.specs.FlexState.{AreFlexSimilar, FlexState, with_machine}
 use Rattle.rlsf_model.specs.FlexWellFormed.{IsFlexWellFormed}
-use Rattle.rlsf_model.specs.Note.{LeadsBy, Note}
 use Rattle.rlsf_model.specs.Run.{IsSomeLive, allocate as machine_allocates, deallocate as machine_deallocates, fill as machine_fills, reallocate as machine_reallocates}
 use Rattle.rlsf_model.specs.State.{with_front}
 use Rattle.rlsf_model.proofs.Similar.{fill_is_similar, similar_states_agree}
 use Rattle.rlsf_model.proofs.Steps.{steps_keep_well_formed}
 use Rattle.rlsf_model.proofs.TrimmedSimilar.{AreSimilar-sym}
 use Rattle.rlsf_model_global.specs.declared.error.GlobalError.{GlobalError}
-use Rattle.rlsf_model_global.specs.declared.error.GlobalError.TheVariants.{NoRoom, OutOfRange, TableMemory, WrongLayout}
-use Rattle.rlsf_model_global.specs.Cursor.{PageCursor, PageLeads, terms_of}
+use Rattle.rlsf_model_global.specs.declared.error.GlobalError.TheVariants.{NoRoom, OutOfRange, TableMemory}
+use Rattle.rlsf_model_global.specs.Cursor.{PageCursor, terms_of}
 use Rattle.rlsf_model_global.specs.Heap.{HaveSamePlacement, Heap}
 use Rattle.rlsf_model_global.specs.History.{allocate, deallocate, deallocate_as, reallocate, reallocate_as, reallocate_there, read, usable, write}
-use Rattle.rlsf_model_global.specs.Moves.{HeapMovesAway, ReallocatesAsAt, ReallocatesAt, ReallocatesThereAt, ReallocatesTo, Replaces, FlexResizes, HeapResizesThere, ResizesTo, Wanted}
+use Rattle.rlsf_model_global.specs.Moves.{HeapMovesAway, ReallocatesAsAt, ReallocatesAt, ReallocatesThereAt, ReallocatesTo, Replaces, FlexResizes, HeapResizesThere, ResizesTo}
 use Rattle.rlsf_model_global.specs.Replays.{LacksMemory, PlacementDetermines}
 use Rattle.rlsf_model_global.specs.Rows.{Row, put, row_at, without_row}
 use Rattle.rlsf_model_global.specs.Standing.{IsHeap}

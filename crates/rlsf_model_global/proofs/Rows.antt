@@ -1,6 +1,6 @@
 -- Rows in the order of their addresses.
-use Rattle.std.proofs.Common.{◌≡◌, ◌≢◌, ◌⊎◌, ℕ, suc, ◌<◌, ◌≤◌, List, [], ◌∷◌, Some, None, Bool, true, false, true≢false, not, nat_lt}
-use Rattle.std.proofs.Common.{◌==◌, refl, sym, ap, subst, arith, inl, inr, ◌∙◌, if◌then◌else◌}
+use Rattle.std.proofs.Common.{◌≡◌, ◌≢◌, ◌⊎◌, ℕ, suc, ◌<◌, ◌≤◌, List, [], ◌∷◌, None, Bool, true, false, true≢false, not, nat_lt}
+use Rattle.std.proofs.Common.{◌==◌, refl, sym, subst, arith, inl, inr, if◌then◌else◌}
 use Rattle.std.proofs.lemmas.Bool.Decides.{eqb_tells, leb_tells, nat_tests}
 use Rattle.rlsf_model.specs.Lists.{IsIn}
 use Rattle.rlsf_model_global.specs.Rows.{Row, key, IsSorted, row_at, put, without_row}
