@@ -1,7 +1,6 @@
 -- Runs whose calls ask for little enough that none is refused.
 use Rattle.std.proofs.Common.{◌≡◌, ℕ, ◌+◌, ◌-◌, ◌*◌, ◌<◌, ◌≤◌, Bool, cond, eqb, not, filter, List, [], ◌∷◌, Option, Some, None, length, arith, refl, sym}
 use Rattle.std.proofs.Common.{◌∙◌, ap, subst, inl, inr}
-use Rattle.std.proofs.lemmas.Bool.Decides.{nat_tests}
 use Rattle.std.proofs.lemmas.List.{length-map}
 use Rattle.std.proofs.lemmas.List.Sums.{sum_by-cons}
 use Rattle.std.proofs.lemmas.List.Filters.{length-filter_both}
@@ -11,9 +10,9 @@ use Rattle.rlsf_base.specs.PowerOfTwo.{IsPowerOfTwo}
 use Rattle.rlsf_base.specs.Sizes.{request_size}
 use Rattle.rlsf_base.proofs.Numbers.Roundings.{round32-mono}
 use Rattle.rlsf_model.specs.Allocate.{placed, Allocates}
-use Rattle.rlsf_model.specs.Budget.{total_len, used_bytes, AreFronts, IsFront, AreAtMost, IsModest, IsFrugal, IsRequest, RunsFrugally, RunsModestly, HasBudget, HasRoomForBudget, IsDenied, live_after, AsksWithin, AreWithin}
+use Rattle.rlsf_model.specs.Budget.{total_len, used_bytes, AreFronts, AreAtMost, IsModest, IsFrugal, IsRequest, RunsFrugally, RunsModestly, HasBudget, HasRoomForBudget, IsDenied, live_after, AsksWithin, AreWithin}
 use Rattle.rlsf_model.specs.Lists.{IsIn}
-use Rattle.rlsf_model.specs.Reallocate.{Plan, plan, moved, ReallocatesBy}
+use Rattle.rlsf_model.specs.Reallocate.{Plan, plan, ReallocatesBy}
 use Rattle.rlsf_model.specs.Release.{Deallocates}
 use Rattle.rlsf_model.specs.Run.{Event, insert, append, allocate, deallocate, reallocate, fill, remove, trim, IsRemoval, Leads, MayCall, Runs}
 use Rattle.rlsf_model.specs.Sizing.{FrugalRunsAreNotDenied, ModestRunsAreNotDenied, LiveIsCounted, BoundedRunsAreNotDenied}

@@ -1,6 +1,5 @@
 -- What callers see of the reference model: a map from addresses to payloads.
-use Rattle.std.proofs.Common.{◌≡◌, ◌≢◌, ◌⊎◌, ℕ, ◌+◌, ◌-◌, ◌≤◌, List, ◌∷◌, eqb, Option, Some, None, find, true≢false, arith, refl, sym, ◌∙◌, ap, subst, inl, inr}
-use Rattle.std.proofs.lemmas.Bool.Decides.{nat_tests}
+use Rattle.std.proofs.Common.{◌≡◌, ◌≢◌, ℕ, ◌-◌, ◌≤◌, List, ◌∷◌, eqb, Option, Some, None, find, true≢false, arith, refl, sym, ◌∙◌, ap, subst, inl, inr}
 use Rattle.std.proofs.lemmas.Bool.{eq-eqb, eqb-true}
 use Rattle.std.proofs.lemmas.Option.{none-some}
 use Rattle.std.specs.Option.{option_map}
@@ -9,9 +8,9 @@ use Rattle.rlsf_model.specs.Allocate.{Places, placed}
 use Rattle.rlsf_model.specs.Callers.{Changes, Payload, payload_in, payload_at, IsSameMap, IsSet}
 use Rattle.rlsf_model.specs.Laws.{CallersSeeMap, CallReturns, PayloadIsInBlock}
 use Rattle.rlsf_model.specs.Lists.{IsIn}
-use Rattle.rlsf_model.specs.Reallocate.{Plan, plan, moved, ReallocatesBy}
-use Rattle.rlsf_model.specs.Run.{Event, insert, append, allocate, deallocate, reallocate, fill, remove, trim, Leads, MayCall, CallNames}
-use Rattle.rlsf_model.specs.State.{State, Used, Holds, others, used_with_bytes}
+use Rattle.rlsf_model.specs.Reallocate.{Plan, plan, ReallocatesBy}
+use Rattle.rlsf_model.specs.Run.{Event, allocate, deallocate, reallocate, fill, Leads, MayCall, CallNames}
+use Rattle.rlsf_model.specs.State.{State, Used, Holds, used_with_bytes}
 use Rattle.rlsf_model.specs.WellFormed.{coverage, IsWellFormed}
 use Rattle.rlsf_model.proofs.Changes.{Holds-unique, IsIn-others}
 use Rattle.rlsf_model.proofs.Coverage.{covers-inside, coverage-IsIn, find-some, find-none}

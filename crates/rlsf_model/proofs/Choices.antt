@@ -1,8 +1,6 @@
 -- The range that an allocation takes.
-use mathlib.Core.Path.{ap₂}
-use Rattle.std.proofs.Common.{◌≡◌, ℕ, ◌*◌, true, cond, ◌&&◌, ◌||◌, leb, eqb, true≢false, List, [], ◌∷◌, Option, Some, None, find}
-use Rattle.std.proofs.Common.{option_and_then, arith, refl, sym, ◌∙◌, ap, subst, inl, inr}
-use Rattle.std.proofs.lemmas.Bool.Decides.{nat_tests}
+use Rattle.std.proofs.Common.{◌≡◌, ℕ, ◌*◌, true, cond, true≢false, List, [], ◌∷◌, Option, Some, None, find}
+use Rattle.std.proofs.Common.{arith, refl, sym, ◌∙◌, ap, subst, inl, inr}
 use Rattle.std.proofs.lemmas.Bool.{cases_lt, leb-true, le-leb, lt-ltb, le-ltb, eqb-true, eq-eqb, and_parts, and_from}
 use Rattle.rlsf_base.specs.declared.memory.range.Range.{Range}
 use Rattle.rlsf_base.specs.SizeClass.{SizeClass, class_of, class_start, reaches, Reaches, IsAtMost}

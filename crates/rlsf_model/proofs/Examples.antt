@@ -1,9 +1,9 @@
 -- The reference model, if its fresh bytes are all zero: its replies, computed, and that it is a run.
 use Rattle.std.proofs.Common.{◌≡◌, ℕ, ◌-◌, ◌^◌, ◌<◌, ◌≤◌, Bool, true, false, ◌&&◌, ◌||◌, leb, eqb, List, [], ◌∷◌, ◌++◌, length, take}
-use Rattle.std.proofs.Common.{replicate, min, Option, Some, None, find, true≢false, arith, refl, sym, ◌∙◌, inl, inr, length-append, length-take}
+use Rattle.std.proofs.Common.{replicate, Option, Some, None, find, true≢false, arith, refl, sym, inl, inr, length-append, length-take}
 use Rattle.std.proofs.lemmas.Bool.Decides.{nat_tests}
 use Rattle.std.specs.Option.{is_some}
-use Rattle.std.proofs.lemmas.Bool.{and_parts, or_cases, leb-true, eqb-true}
+use Rattle.std.proofs.lemmas.Bool.{and_parts, leb-true, eqb-true}
 use Rattle.std.proofs.lemmas.List.{length-replicate, take-append-le, take-take}
 use Rattle.rlsf_base.specs.declared.memory.range.Range.{Range}
 use Rattle.rlsf_base.specs.PowerOfTwo.{floor_log2}
@@ -18,7 +18,7 @@ use Rattle.rlsf_model.specs.Reallocate.{Plan, plan, replanned, Keeps, Replans, R
 use Rattle.rlsf_model.specs.Release.{released, Deallocates}
 use Rattle.rlsf_model.specs.Run.{Event, insert, append, allocate, deallocate, reallocate, Leads, MayCall, Runs}
 use Rattle.rlsf_model.specs.State.{State, Used, Holds}
-use Rattle.rlsf_model.specs.WellFormed.{covers, coverage, itself}
+use Rattle.rlsf_model.specs.WellFormed.{coverage, itself}
 use Rattle.rlsf_model.proofs.Coverage.{covers-before, covers-behind, find-some}
 
 abbrev pub at : ℕ → Used → Bool

@@ -1,12 +1,10 @@
 -- What callers see of the reference model that asks a source for memory: a map from addresses to payloads too.
-use Rattle.std.proofs.Common.{◌≡◌, ◌≢◌, ℕ, ◌+◌, ◌-◌, ◌≤◌, eqb, cond, not, true, List, [], ◌∷◌, Some, None, find, arith, refl, sym, ◌∙◌, ap}
+use Rattle.std.proofs.Common.{◌≡◌, ◌≢◌, ℕ, ◌+◌, ◌≤◌, cond, not, List, ◌∷◌, Some, None, arith, refl, sym, ◌∙◌, ap}
 use Rattle.std.proofs.Common.{subst, inl, inr}
 use Rattle.std.proofs.lemmas.Bool.{ne_eqb}
-use Rattle.std.proofs.lemmas.Bool.Decides.{eqb_tells}
-use Rattle.std.specs.Option.{option_map}
 use Rattle.rlsf_base.specs.declared.memory.range.Range.{Range}
 use Rattle.rlsf_model.specs.Allocate.{Places, placed}
-use Rattle.rlsf_model.specs.Callers.{Changes, ServesLayout, payload_at, payload_in, IsResizedInMap}
+use Rattle.rlsf_model.specs.Callers.{payload_at, payload_in, IsResizedInMap}
 use Rattle.rlsf_model.specs.FlexRun.{FlexLeads}
 use Rattle.rlsf_model.specs.FlexState.{FlexState, with_machine}
 use Rattle.rlsf_model.specs.Laws.{FlexCallersSeeMap}
@@ -17,16 +15,14 @@ use Rattle.rlsf_model.specs.Reallocate.{Keeps, MovesAway, Reallocates}
 use Rattle.rlsf_model.specs.Run.{Event, insert, append, allocate, deallocate, reallocate, fill, remove, trim, Leads}
 use Rattle.rlsf_model.specs.State.{State, Used, Holds, others}
 use Rattle.rlsf_model.specs.Terms.{Terms}
-use Rattle.rlsf_model.specs.WellFormed.{coverage, IsWellFormed}
+use Rattle.rlsf_model.specs.WellFormed.{IsWellFormed}
 pub use Rattle.rlsf_model.proofs.Callers.{first_alone}
 use Rattle.rlsf_model.proofs.Callers.{callers_see_map, payload_at-held, payload_at-none, payload_at-unnamed, placed_changes}
 use Rattle.rlsf_model.proofs.Changes.{Holds-unique, IsIn-others, IsIn-others_from}
-use Rattle.rlsf_model.proofs.Coverage.{by_test, covers-inside, coverage-IsIn}
 use Rattle.rlsf_model.proofs.Growths.{Holds-same, used-taken}
 use Rattle.rlsf_model.proofs.UsedBlocks.{Goes, as_before, reallocate_goes, step_goes}
-use Rattle.rlsf_model.proofs.Payloads.{IsUsed-after_start, payload_of-after, block_length-le, block_length-lt}
+use Rattle.rlsf_model.proofs.Payloads.{payload_of-after, block_length-le, block_length-lt}
 use Rattle.rlsf_model.proofs.Trims.{used-trimmed}
-use Rattle.rlsf_model.proofs.Tiling.{block_of, tiling_of, used-le}
 
 -- a step over a source makes such changes of the used blocks, too
 module _ (fllen sllen : ℕ) (t : Terms) (s u : FlexState) where

@@ -1,12 +1,11 @@
 -- The reference model that asks a source for memory and is given the answers: its replies to allocations, computed, and that they are a run.
 use Rattle.std.proofs.Common.{◌≡◌, ℕ, ◌%◌, ◌^◌, ◌+◌, Bool, true, ◌&&◌, leb, eqb, List, [], ◌∷◌, Option, Some, None, drop, true≢false, refl, sym, ap}
 use Rattle.std.proofs.Common.{◌∙◌, inl, inr}
-use Rattle.std.proofs.lemmas.Bool.Decides.{nat_tests}
 use Rattle.std.specs.Bool.{then_some}
 use Rattle.std.specs.Option.{is_some, IfSome}
 use Rattle.std.proofs.lemmas.Bool.{and_parts, leb-true, eqb-true}
 use Rattle.rlsf_base.specs.declared.memory.range.Range.{Range}
-use Rattle.rlsf_base.specs.PowerOfTwo.{floor_log2, IsPowerOfTwo}
+use Rattle.rlsf_base.specs.PowerOfTwo.{floor_log2}
 use Rattle.rlsf_base.specs.Sizes.{max_pool_size, pool_size_to_contain_allocation, request_size}
 use Rattle.rlsf_model.specs.Allocate.{choice}
 use Rattle.rlsf_model.specs.FlexAllocate.{Asks, FlexAllocates}

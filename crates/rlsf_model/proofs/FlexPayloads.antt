@@ -1,5 +1,5 @@
 -- What steps over a source leave of payloads.
-use Rattle.std.proofs.Common.{◌≡◌, ℕ, [], ◌∷◌, length, Some, None, arith, refl, sym, ◌∙◌, ap, subst, inl, inr}
+use Rattle.std.proofs.Common.{◌≡◌, ℕ, [], ◌∷◌, Some, None, arith, refl, sym, ◌∙◌, ap, subst, inl, inr}
 use Rattle.std.proofs.lemmas.Option.{same_Some}
 use Rattle.rlsf_base.specs.declared.memory.range.Range.{Range}
 use Rattle.rlsf_model.specs.Callers.{Payload, ServesLayout, payload_at, payload_in}
@@ -8,8 +8,8 @@ use Rattle.rlsf_model.specs.Laws.{FlexStepsChangeMap, FlexRunsChangeMap, FlexPay
 use Rattle.rlsf_model.specs.Laws.{FlexOtherPayloadsStay, FlexOthersStayInRuns, FlexUsedWasUsed, FlexUsedWasUsedInRuns, HasSize}
 use Rattle.rlsf_model.specs.Lists.{IsIn}
 use Rattle.rlsf_model.specs.Reallocate.{Keeps}
-use Rattle.rlsf_model.specs.Run.{insert, append, allocate, deallocate, reallocate, fill, remove, trim}
-use Rattle.rlsf_model.specs.State.{State, usable}
+use Rattle.rlsf_model.specs.Run.{allocate, reallocate}
+use Rattle.rlsf_model.specs.State.{State}
 use Rattle.rlsf_model.specs.WellFormed.{IsWellFormed}
 use Rattle.rlsf_model.proofs.Callers.{payload_at-has, payload_at-held}
 use Rattle.rlsf_model.proofs.FlexCallers.{flex_callers_see_map, flex_step_goes}

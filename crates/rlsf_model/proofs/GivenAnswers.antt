@@ -1,6 +1,5 @@
 -- What the answers of a source give, where memory came.
 use Rattle.std.proofs.Common.{◌≡◌, ℕ, ◌+◌, Bool, true, false, true≢false, cond, List, ◌++◌, Option, Some, None, refl, sym, subst, inl}
-use Rattle.std.proofs.lemmas.Bool.Decides.{nat_tests}
 use Rattle.std.specs.Option.{is_some}
 use Rattle.rlsf_base.specs.declared.memory.range.Range.{Range}
 use Rattle.rlsf_model.specs.Answers.{MayAnswer, MayAnswerAll}

@@ -1,25 +1,23 @@
 -- The laws of live payloads.
-use Rattle.std.proofs.Common.{◌≡◌, ◌≢◌, ◌⊎◌, ℕ, ◌+◌, ◌-◌, ◌%◌, ◌<◌, ◌≤◌, cond, eqb, filter, List, [], ◌∷◌, Option, Some, None}
+use Rattle.std.proofs.Common.{◌≡◌, ◌≢◌, ◌⊎◌, ℕ, ◌+◌, ◌-◌, ◌<◌, ◌≤◌, cond, eqb, filter, List, [], ◌∷◌, Option, Some, None}
 use Rattle.std.proofs.Common.{true≢false, arith, refl, sym, ◌∙◌, ap, subst, inl, inr}
-use Rattle.std.proofs.lemmas.Bool.Decides.{nat_tests}
 use Rattle.std.proofs.lemmas.Bool.{eq-eqb, eqb-true, ne_eqb}
 use Rattle.rlsf_base.specs.declared.memory.range.Range.{Range}
 use Rattle.rlsf_base.specs.PowerOfTwo.{IsPowerOfTwo}
 use Rattle.rlsf_base.specs.Range.{end_of}
 use Rattle.rlsf_base.specs.Sizes.{request_size}
-use Rattle.rlsf_model.specs.Allocate.{placed, given, Places, Allocates}
+use Rattle.rlsf_model.specs.Allocate.{placed, given, Places}
 use Rattle.rlsf_model.specs.Laws.{LiveAddressesAreAligned, LiveAddressHasOneBlock, PayloadsAreDisjoint, PayloadLiesInOneChunk, HasSize, AllocationHasSize, ReallocationHasSize}
 use Rattle.rlsf_model.specs.Laws.{ReallocationKeepsBytes, OtherPayloadsStay, UsedWasUsed, HandedOutIsNew, ReallocatedIsLive, LiveStays, ReleasedIsNotLive, FilledHasBytes}
 use Rattle.rlsf_model.specs.Laws.{FillLeavesOthers, DeallocationLeavesOthers}
 use Rattle.rlsf_model.specs.Lists.{IsIn}
 use Rattle.rlsf_model.specs.Reallocate.{Keeps, Plan, plan, moved, ReallocatesBy, Reallocates}
-use Rattle.rlsf_model.specs.Run.{insert, append, allocate, deallocate, reallocate, fill, remove, trim, Fills, CallNames}
-use Rattle.rlsf_model.specs.State.{State, Used, Holds, IsLive, usable, others, filled, used_with_bytes}
+use Rattle.rlsf_model.specs.Run.{Fills, CallNames}
+use Rattle.rlsf_model.specs.State.{State, Used, Holds, IsLive, usable, filled, used_with_bytes}
 use Rattle.rlsf_model.specs.WellFormed.{covers, coverage, itself, IsUsed, IsWellFormed}
 use Rattle.rlsf_model.proofs.Allocations.{placed-fits, IsUsed-placed}
 use Rattle.rlsf_model.proofs.Changes.{Holds-unique, IsIn-others, IsIn-others_from}
 use Rattle.rlsf_model.proofs.Choices.{choice-some}
-use Rattle.rlsf_model.proofs.Chunks.{used-inserted, used-appended}
 use Rattle.rlsf_model.proofs.Coverage.{by_test, inside, before, behind, where_is, covers-inside, covers-le, coverage-IsIn, coverage-unique}
 use Rattle.rlsf_model.proofs.Fillings.{filled_at-none, filled_if-here, IsIn-filled_other, IsIn-filled_other_from, filled_holds}
 use Rattle.rlsf_model.proofs.Plans.{IsSoundPlan, IsSound-plan}

@@ -1,20 +1,18 @@
 -- Where a payload lies in its block, and how long the block is.
-use Rattle.std.proofs.Common.{◌≡◌, ◌≢◌, ℕ, zero, suc, ◌+◌, ◌-◌, ◌*◌, ◌/◌, ◌%◌, ◌^◌, ◌<◌, ◌≤◌, List, [], ◌∷◌, Some, None, cond}
+use Rattle.std.proofs.Common.{◌≡◌, ◌≢◌, ℕ, zero, suc, ◌+◌, ◌-◌, ◌*◌, ◌/◌, ◌%◌, ◌^◌, ◌<◌, ◌≤◌, List, [], ◌∷◌, None, cond}
 use Rattle.std.proofs.Common.{not, arith, inl, inr, refl, sym, ◌∙◌, ap, subst}
-use Rattle.std.proofs.lemmas.Bool.Decides.{nat_tests}
 use Rattle.std.proofs.lemmas.Bool.{cases_lt, le-leb, ne_eqb}
 use Rattle.std.proofs.lemmas.Nat.{pow_pos, pow-add}
 use Rattle.std.proofs.Math.Nat.{div-add-mod'}
 use Rattle.std.specs.Int.{next_multiple_of}
 use Rattle.rlsf_base.specs.declared.memory.range.Range.{Range}
 use Rattle.rlsf_base.specs.PowerOfTwo.{IsPowerOfTwo, floor_log2}
-use Rattle.rlsf_base.specs.Range.{end_of}
 use Rattle.rlsf_base.specs.Sizes.{request_size}
 use Rattle.rlsf_base.proofs.Numbers.PowersOfTwo.{IsPowerOfTwo-positive}
 use Rattle.rlsf_base.proofs.Numbers.Roundings.{next_multiple_of-le, next_multiple_of-lt, next_multiple_of-multiple}
 use Rattle.rlsf_model.specs.Lists.{IsIn}
 use Rattle.rlsf_model.specs.Payload.{payload_of, block_length}
-use Rattle.rlsf_model.specs.Reallocate.{in_place, resized, tail_joined, Plan}
+use Rattle.rlsf_model.specs.Reallocate.{in_place}
 use Rattle.rlsf_model.specs.State.{State, Used, others, usable}
 use Rattle.rlsf_model.specs.WellFormed.{IsUsed, IsWellFormed}
 

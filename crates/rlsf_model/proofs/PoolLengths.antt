@@ -1,18 +1,17 @@
 -- Pools of the lengths that are computed for many payloads.
-use Rattle.std.proofs.Common.{◌≡◌, ℕ, ◌+◌, ◌-◌, ◌*◌, ◌/◌, ◌%◌, ◌<◌, ◌≤◌, [], ◌∷◌, length, arith, ◌∙◌, ap, subst, inl, inr}
+use Rattle.std.proofs.Common.{◌≡◌, ℕ, ◌+◌, ◌-◌, ◌*◌, ◌%◌, ◌<◌, ◌≤◌, [], ◌∷◌, length, arith, ◌∙◌, ap, subst, inl, inr}
 use Rattle.std.proofs.lemmas.List.Sums.{sum_by-cons}
 use Rattle.std.proofs.lemmas.Nat.{div-mul-add}
 use Rattle.rlsf_base.specs.declared.memory.range.Range.{Range}
-use Rattle.rlsf_base.specs.Rounding.{round32}
 use Rattle.rlsf_base.specs.SizeClass.{Reaches, class_of}
 use Rattle.rlsf_base.specs.Sizes.{IsSize, payloads_length, request_size}
 use Rattle.rlsf_base.proofs.Numbers.Roundings.{round32-same}
 use Rattle.rlsf_base.proofs.SizeMaps.ChunkLengths.{IsBudgetPool, IsBudgetPool-some, IsObjectPool-some, IsPayloadPool, IsPayloadPool-some}
 use Rattle.rlsf_base.proofs.SizeMaps.Laws.{IsSize-request_size}
-use Rattle.rlsf_model.specs.Budget.{HasBudget, HasRoomForBudget, total_len}
+use Rattle.rlsf_model.specs.Budget.{HasBudget, HasRoomForBudget}
 use Rattle.rlsf_model.specs.Insert.{body}
 use Rattle.rlsf_model.specs.Lists.{IsIn}
-use Rattle.rlsf_model.specs.Run.{Event, insert, append, allocate, deallocate, reallocate, fill, remove, trim}
+use Rattle.rlsf_model.specs.Run.{Event}
 use Rattle.rlsf_model.specs.Sizing.{BudgetPoolIsEnough, PayloadPoolIsEnough, ObjectPoolIsExact}
 use Rattle.rlsf_model.specs.State.{State}
 use Rattle.rlsf_model.specs.Uniform.{AreDeniedOnlyAt, AsksForObject, AsksUniformly, IsUniform, blocks_in}

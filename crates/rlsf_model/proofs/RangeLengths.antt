@@ -1,6 +1,6 @@
 -- How long a range is asked for, and that a pool has room in what comes.
-use Rattle.std.proofs.Common.{◌≡◌, ◌⊎◌, ℕ, ◌+◌, ◌-◌, ◌*◌, ◌/◌, ◌%◌, ◌^◌, ◌≤◌, Bool, true, false, cond, List, Option, Some, None, arith}
-use Rattle.std.proofs.Common.{sym, ◌∙◌, ap, inl, inr}
+use Rattle.std.proofs.Common.{◌≡◌, ◌⊎◌, ℕ, ◌+◌, ◌-◌, ◌*◌, ◌/◌, ◌%◌, ◌^◌, ◌≤◌, List, Option, Some, None, arith}
+use Rattle.std.proofs.Common.{◌∙◌, ap}
 use Rattle.std.proofs.lemmas.Bool.Decides.{nat_tests}
 use Rattle.std.proofs.lemmas.Bool.{cases_lt, le-ltb, lt-ltb}
 use Rattle.std.proofs.lemmas.Nat.{pow-add}
@@ -10,7 +10,7 @@ use Rattle.rlsf_base.specs.declared.memory.range.Range.{Range}
 use Rattle.rlsf_base.specs.PowerOfTwo.{floor_log2, IsPowerOfTwo}
 use Rattle.rlsf_base.proofs.Numbers.PowersOfTwo.{floor_log2-lt, pow-between}
 use Rattle.rlsf_model.specs.FlexState.{KeptPool}
-use Rattle.rlsf_model.specs.Growth.{if_fits, questions_for, questions_kept, range_length}
+use Rattle.rlsf_model.specs.Growth.{if_fits, questions_for, range_length}
 use Rattle.rlsf_model.specs.PoolLength.{HasAlignedPart}
 use Rattle.rlsf_model.specs.Terms.{IsGiven, Terms}
 

@@ -1,5 +1,5 @@
 -- Outstanding ranges, and the chunks that they house.
-use Rattle.std.proofs.Common.{◌≡◌, ℕ, ◌<◌, ◌≤◌, List, ◌∷◌, Option, arith, refl, sym, ap, subst, inl, inr}
+use Rattle.std.proofs.Common.{◌≡◌, ℕ, ◌<◌, ◌≤◌, List, ◌∷◌, Option, arith, refl, ap, inl, inr}
 use Rattle.std.proofs.lemmas.Bool.{cases_lt}
 use Rattle.rlsf_base.specs.declared.memory.range.Range.{Range}
 use Rattle.rlsf_base.specs.Range.{end_of, LiesIn}
@@ -10,7 +10,7 @@ use Rattle.rlsf_model.specs.State.{State}
 use Rattle.rlsf_model.specs.Terms.{with_len}
 use Rattle.rlsf_model.specs.WellFormed.{coverage, itself}
 use Rattle.rlsf_model.proofs.Chunks.{inserted_chunks_lie_in_range}
-use Rattle.rlsf_model.proofs.Coverage.{before, behind, coverage-IsIn, coverage-some, covers-inside, inside, where_is}
+use Rattle.rlsf_model.proofs.Coverage.{coverage-IsIn, coverage-some, covers-inside, where_is}
 
 -- an address of a list's range is in the list
 pub coverage-in : (r : Range) (rs : List Range) (a : ℕ) → IsIn r rs → r.start ≤ a → a < end_of r → 1 ≤ coverage itself rs a

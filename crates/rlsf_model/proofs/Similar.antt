@@ -1,7 +1,6 @@
 -- From similar states the same call has the same reply, and leads to similar states.
 use mathlib.Core.Path.{ap₂}
 use Rattle.std.proofs.Common.{◌≡◌, ℕ, not, eqb, map, List, [], ◌∷◌, Option, Some, None, refl, sym, ◌∙◌, ap, subst}
-use Rattle.std.proofs.lemmas.Bool.Decides.{nat_tests}
 use Rattle.rlsf_base.specs.declared.memory.range.Range.{Range}
 use Rattle.rlsf_base.specs.Sizes.{request_size}
 use Rattle.rlsf_model.specs.Allocate.{choice, placed, given, Allocates}

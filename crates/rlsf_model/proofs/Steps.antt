@@ -1,5 +1,5 @@
 -- Each step and each run keeps a state well-formed.
-use Rattle.std.proofs.Common.{ℕ, List, [], ◌∷◌, length, arith, refl, sym, ◌∙◌, ap, subst, inl, inr}
+use Rattle.std.proofs.Common.{ℕ, List, [], ◌∷◌, length, arith, sym, ◌∙◌, ap, subst, inl, inr}
 use Rattle.rlsf_base.specs.declared.memory.range.Range.{Range}
 use Rattle.rlsf_model.specs.Laws.{EmptyIsWellFormed, StepsKeepWellFormed, RunsKeepWellFormed}
 use Rattle.rlsf_model.specs.Lists.{IsIn}

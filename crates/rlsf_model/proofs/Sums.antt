@@ -1,7 +1,6 @@
 -- Numbers of ranges and of bytes, counted address by address.
 use Rattle.std.proofs.Common.{◌≡◌, ℕ, zero, None, suc, ◌+◌, ◌-◌, ◌*◌, ◌<◌, ◌≤◌, ◌⊎◌, List, [], ◌∷◌, length, arith, refl, ap, subst, inl}
 use Rattle.std.proofs.Common.{inr}
-use Rattle.std.proofs.lemmas.Bool.Decides.{nat_tests}
 use Rattle.std.specs.Prelude.{sum_by}
 use Rattle.std.proofs.lemmas.Bool.{cases_lt}
 use Rattle.std.proofs.lemmas.List.Sums.{sum_by-cons}

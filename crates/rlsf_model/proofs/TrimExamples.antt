@@ -1,6 +1,6 @@
 -- The reference model over a source with trims: its replies and the ranges that it returns, computed, and that they are a run.
 use Rattle.std.proofs.Common.{◌≡◌, ℕ, ◌+◌, ◌-◌, ◌<◌, ◌≤◌, Bool, true, false, ◌&&◌, ◌||◌, cond, leb, eqb, length, map, max, List, [], ◌∷◌}
-use Rattle.std.proofs.Common.{◌++◌, Option, Some, None, find, take, drop, true≢false, arith, refl, sym, ◌∙◌, ap, subst, inl, inr}
+use Rattle.std.proofs.Common.{◌++◌, Option, Some, None, find, take, drop, true≢false, arith, refl, sym}
 use Rattle.std.proofs.lemmas.Bool.Decides.{nat_tests}
 use Rattle.std.specs.Option.{is_some}
 use Rattle.std.proofs.lemmas.Bool.{and_parts, eqb-true, leb-true}
@@ -13,14 +13,13 @@ use Rattle.rlsf_model.specs.Lists.{IsIn}
 use Rattle.rlsf_model.specs.Note.{dealloc}
 use Rattle.rlsf_model.specs.Release.{released}
 use Rattle.rlsf_model.specs.Remove.{IsIdle, lies_within}
-use Rattle.rlsf_model.specs.Run.{allocate, deallocate, trim}
+use Rattle.rlsf_model.specs.Run.{deallocate, trim}
 use Rattle.rlsf_model.specs.State.{State, Used}
 use Rattle.rlsf_model.specs.Terms.{Terms}
 use Rattle.rlsf_model.specs.Trim.{all_removed, IsKeptToLast, IsNewestHeld}
-use Rattle.rlsf_model.specs.WellFormed.{covers, coverage}
-use Rattle.rlsf_model.proofs.Coverage.{by_test, find-some, covers-before, covers-behind, covers-inside}
-use Rattle.rlsf_model.proofs.FlexExamples.{Attempt, AreAnswers, AreAnswers-from, FlexAllocates-so, are_answers, after, asked, done, is_power_of_two, may_attempt, may_come, ready}
-use Rattle.rlsf_model.proofs.FlexExamples.{room}
+use Rattle.rlsf_model.specs.WellFormed.{coverage}
+use Rattle.rlsf_model.proofs.Coverage.{find-some, covers-before, covers-behind, covers-inside}
+use Rattle.rlsf_model.proofs.FlexExamples.{Attempt, AreAnswers, AreAnswers-from, FlexAllocates-so, after, done, may_attempt}
 use Rattle.rlsf_model.proofs.Removals.{lies_within-le, lies_within-true}
 use Rattle.rlsf_model.proofs.Tiling.{block_of}
 

@@ -1,5 +1,5 @@
 -- From similar states a trim gives the same ranges back, and leads to similar states.
-use Rattle.std.proofs.Common.{◌≡◌, ℕ, not, true≢false, length, map, List, [], ◌∷◌, ◌++◌, Option, Some, arith, refl, sym, ◌∙◌, ap, subst, inl, inr}
+use Rattle.std.proofs.Common.{◌≡◌, ℕ, not, true≢false, length, map, List, [], ◌∷◌, ◌++◌, Option, arith, refl, sym, ◌∙◌, ap, subst, inl, inr}
 use Rattle.rlsf_base.specs.declared.memory.range.Range.{Range}
 use Rattle.rlsf_model.specs.FlexState.{AreFlexSimilar, FlexState, KeptPool}
 use Rattle.rlsf_model.specs.Lists.{IsIn}

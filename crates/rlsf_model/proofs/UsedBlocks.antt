@@ -4,7 +4,6 @@ use Rattle.rlsf_model.specs.Allocate.{placed, Allocates}
 use Rattle.rlsf_model.specs.Laws.{CallReturns}
 use Rattle.rlsf_model.specs.Lists.{IsIn}
 use Rattle.rlsf_model.specs.Reallocate.{Plan, plan, moved, ReallocatesBy}
-use Rattle.rlsf_model.specs.Release.{Deallocates}
 use Rattle.rlsf_model.specs.Run.{Event, insert, append, allocate, deallocate, reallocate, fill, remove, trim, CallNames, Leads}
 use Rattle.rlsf_model.specs.State.{State, Used, Holds, others, filled_at}
 use Rattle.rlsf_model.proofs.Changes.{IsIn-others, IsIn-others_from}

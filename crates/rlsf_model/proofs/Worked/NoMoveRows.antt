@@ -1,6 +1,5 @@
 -- Reallocations without a move, on literals: what each replies, and the blocks and free ranges that there are after it.
 use Rattle.std.proofs.Common.{◌≡◌, ℕ, ◌-◌, Bool, true, ◌&&◌, true≢false, List, [], ◌∷◌, Option, Some, None, find, refl, sym, subst}
-use Rattle.std.proofs.lemmas.Bool.Decides.{nat_tests}
 use Rattle.std.specs.Option.{is_some}
 use Rattle.std.proofs.lemmas.Bool.{and_parts, eqb-true}
 use Rattle.rlsf_base.specs.declared.memory.range.Range.{Range}

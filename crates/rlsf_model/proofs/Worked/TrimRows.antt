@@ -1,18 +1,14 @@
 -- The reference model that asks a source for memory and returns it, on literals: its replies, its questions, the ranges that it
 -- returns, and its state after them.
-use Rattle.std.proofs.Common.{◌≡◌, ℕ, true, false, List, [], ◌∷◌, Option, Some, None, refl}
-use Rattle.rlsf_base.specs.declared.memory.range.Range.{Range}
+use Rattle.std.proofs.Common.{true, false, [], ◌∷◌, Some, None, refl}
 use Rattle.rlsf_base.specs.Range.{range_at}
-use Rattle.rlsf_model.specs.End.{notes_at_end}
-use Rattle.rlsf_model.specs.FlexRun.{FlexEvent}
-use Rattle.rlsf_model.specs.FlexState.{FlexState, KeptPool, flex_empty}
 use Rattle.rlsf_model.specs.Growth.{refused, growth_came, range_came}
-use Rattle.rlsf_model.specs.Note.{Note, alloc, grow, dealloc}
-use Rattle.rlsf_model.specs.Run.{Event, allocate, deallocate, trim}
+use Rattle.rlsf_model.specs.Note.{alloc, grow, dealloc}
+use Rattle.rlsf_model.specs.Run.{allocate, deallocate, trim}
 use Rattle.rlsf_model.specs.Terms.{Terms}
-use Rattle.rlsf_model.proofs.Examples.{Block, block, seen}
+use Rattle.rlsf_model.proofs.Examples.{block}
 use Rattle.rlsf_model.proofs.Worked.FlexRows.{GivesWith, attempt, call, gives_with, growing_and_taking_back, pages}
-use Rattle.rlsf_model.proofs.TrimExamples.{Move, allocates, frees, gives_back, RunsWith, RunsWith-all, all_moved_by, all_moved_to, may_move_all}
+use Rattle.rlsf_model.proofs.TrimExamples.{allocates, frees, gives_back}
 
 -- each range is returned once it holds no block, the newest first, and nothing is left for the end
 ranges_go_back_by_trims : GivesWith 8 8 pages
