@@ -145,8 +145,7 @@ module _ (most : ℕ) {fllen sllen : ℕ} {memory : Range} {s : State} (w : IsWe
   step_modest live t (reallocate addr size reply) may modest step =
       reallocate_modest step.block step.holds.0 size (modest.1 step.block step.holds) (plan s step.block size) refl reply t step.step
   step_modest live t (fill addr bytes) may modest step = still step.after (filled_modest most s.used addr bytes small)
-  step_modest live t (remove r) may modest step = absurd modest
-  step_modest live t (trim n) may modest step = absurd modest
+  step_modest live t e may modest step = absurd modest
 
 -- ---- calls for which there is room
 

@@ -67,11 +67,10 @@ pub chunks_stay : ChunksStay
 chunks_stay fllen sllen s t (insert r reply) c lasts step i = stays c s t i _ (IsIn-with_chunks_old c (cut (max_pool_size fllen) (aligned_part r)) s i) step.after
 chunks_stay fllen sllen s t (append r reply) c lasts step i = subst (IsChunkKept c) (sym step.after) (appended_kept c s t i (max_pool_size fllen) r)
 chunks_stay fllen sllen s t (allocate size align reply) c lasts step i = allocate_kept c s t i sllen size align reply step
-chunks_stay fllen sllen s t (deallocate addr) c lasts step i = stays c s t i _ i step.after
 chunks_stay fllen sllen s t (reallocate addr size reply) c lasts step i = reallocate_kept c s t i sllen size step.block (plan s step.block size) reply step.step
-chunks_stay fllen sllen s t (fill addr bytes) c lasts step i = stays c s t i _ i step.after
 chunks_stay fllen sllen s t (remove r) c lasts step i = absurd (lasts tt)
 chunks_stay fllen sllen s t (trim count) c lasts step i = absurd step
+chunks_stay fllen sllen s t e c lasts step i = stays c s t i _ i step.after
 
 -- ---- steps that change no chunk
 

@@ -177,11 +177,9 @@ IsGrown-from t others r n len e =
 
 -- what is_answer tests
 IsAnswer-from : (t : Terms) (owed : List Range) (note : Note) → is_answer t owed note ≡ true → IsAnswer t owed note
-IsAnswer-from t owed (alloc n None) e = tt
 IsAnswer-from t owed (alloc n (Some r)) e = IsGiven-from t owed n r e
-IsAnswer-from t owed (grow r n None) e = tt
 IsAnswer-from t owed (grow r n (Some len)) e = IsGrown-from t (drop 1 owed) r n len e
-IsAnswer-from t owed (dealloc r) e = tt
+IsAnswer-from t owed x e = tt
 
 -- what are_answers tests
 pub AreAnswers-from : (t : Terms) (owed : List Range) (notes : List Note) → are_answers t owed notes ≡ true → AreAnswers t owed notes

@@ -42,14 +42,11 @@ outcome-agrees q o o' p p' a = go q.growth q.range o o' p p' a
     go None (Some n) (range_came c) refused p p' a = let bad = a.0 refl in absurd (cc)
     go None (Some n) (range_came c) (range_came d) p p' a = let same = a.0 refl in let is : c ≡ d = cc in ap range_came is
     go (Some (k, m)) r refused refused p p' a = refl
-    go (Some (k, m)) r refused (growth_came n) p p' a = let bad = a.0 (refl, refl) in absurd (cc)
-    go (Some (k, m)) r (growth_came n) refused p p' a = let bad = a.0 (refl, refl) in absurd (cc)
     go (Some (k, m)) r (growth_came n) (growth_came i) p p' a = let same = a.0 (refl, refl) in let is : n ≡ i = cc in ap growth_came is
-    go (Some (k, m)) (Some i) (range_came c) (growth_came n) p p' a = let bad = a.0 (refl, refl) in absurd (cc)
-    go (Some (k, m)) (Some i) (growth_came n) (range_came c) p p' a = let bad = a.0 (refl, refl) in absurd (cc)
     go (Some (k, m)) (Some i) refused (range_came c) p p' a = let bad = (a.1 refl).0 refl in absurd (cc)
     go (Some (k, m)) (Some i) (range_came c) refused p p' a = let bad = (a.1 refl).0 refl in absurd (cc)
     go (Some (k, m)) (Some i) (range_came c) (range_came d) p p' a = let same = (a.1 refl).0 refl in let is : c ≡ d = cc in ap range_came is
+    go (Some (k, m)) r o o' p p' a = let bad = a.0 (refl, refl) in absurd (cc)
 
 -- a reallocation is refused by the reference model, where the block is stuck and there is no room
 refuses_stuck : {fllen sllen : ℕ} {t : Terms} {x : FlexState} (addr size : ℕ) (v : Used) (outcome : Outcome) (ns : List Note) (m : FlexState) → IsStuck x.machine addr size v

@@ -17,9 +17,8 @@ terms-led terms leads constant x y (n ∷ ns) (z, led, rest) = terms-led terms l
 
 -- a question is the same as itself
 IsSameQuestion-refl : (m : Note) → IsSameQuestion m m
-IsSameQuestion-refl (alloc n answer) = refl
 IsSameQuestion-refl (grow r n answer) = (refl, refl)
-IsSameQuestion-refl (dealloc r) = refl
+IsSameQuestion-refl x = refl
 
 -- a source whose answer and whose value after a question are determined by its value before answers the same questions the same
 pub AnswersAgree-led : {S : Type 0} (leads : S → Note → S → Type 0)

@@ -18,11 +18,6 @@ use Rattle.rlsf_model.specs.WellFormed.{IsUsed, IsWellFormed}
 
 -- rounding the address 16 bytes into a block up to a power of two adds that power less 16 at most
 payload_pow : (k b : ℕ) → b % 32 ≡ 0 → payload_of b (2 ^ k) ≤ b + 16 + (2 ^ k - 16)
-payload_pow zero b whole = omega arith
-payload_pow (suc zero) b whole = omega arith
-payload_pow (suc (suc zero)) b whole = omega arith
-payload_pow (suc (suc (suc zero))) b whole = omega arith
-payload_pow (suc (suc (suc (suc zero)))) b whole = omega arith
 payload_pow (suc (suc (suc (suc (suc k))))) b whole =
     let n = 2 ^ (5 + k) in
     let exponent : suc (suc (suc (suc (suc k)))) ≡ 5 + k = omega arith in
@@ -32,13 +27,10 @@ payload_pow (suc (suc (suc (suc (suc k))))) b whole =
     let product : p / n * n ≡ p / n * (32 * 2 ^ k) = ap (λ m. p / n * m) times in
     let multiple : p ≡ 32 * (p / n * 2 ^ k) = omega (arith, div-add-mod' p n, next_multiple_of-multiple (b + 16) n some) in
     subst (λ e. payload_of b (2 ^ e) ≤ b + 16 + (2 ^ e - 16)) (sym exponent) (omega (arith, next_multiple_of-lt (b + 16) n some))
+payload_pow n b whole = omega arith
 
 -- the payload of a block lies at a multiple of 16
 even_payload : (k b : ℕ) → b % 32 ≡ 0 → payload_of b (2 ^ k) % 16 ≡ 0
-even_payload zero b whole = omega arith
-even_payload (suc zero) b whole = omega arith
-even_payload (suc (suc zero)) b whole = omega arith
-even_payload (suc (suc (suc zero))) b whole = omega arith
 even_payload (suc (suc (suc (suc k)))) b whole =
     let n = 2 ^ (4 + k) in
     let exponent : suc (suc (suc (suc k))) ≡ 4 + k = omega arith in
@@ -48,6 +40,7 @@ even_payload (suc (suc (suc (suc k)))) b whole =
     let product : p / n * n ≡ p / n * (16 * 2 ^ k) = ap (λ m. p / n * m) times in
     let multiple : p ≡ 16 * (p / n * 2 ^ k) = omega (arith, div-add-mod' p n, next_multiple_of-multiple (b + 16) n some) in
     subst (λ e. payload_of b (2 ^ e) % 16 ≡ 0) (sym exponent) (omega (arith, multiple))
+even_payload n b whole = omega arith
 
 pub payload_of-le : (b align : ℕ) → b % 32 ≡ 0 → IsPowerOfTwo align → payload_of b align ≤ b + 16 + (align - 16)
 payload_of-le b align whole power = subst (λ n. payload_of b n ≤ b + 16 + (n - 16)) (sym power) (payload_pow (floor_log2 align) b whole)

@@ -132,13 +132,8 @@ uniform_is_full fllen sllen memory s t c size align reply w is begins step =
 
 -- at an alignment of 32 or less a block is as long as what is sought
 block_length-pow : (k b size : ℕ) → k ≤ 5 → b % 32 ≡ 0 → block_length b (payload_of b (2 ^ k)) size ≡ request_size size (2 ^ k)
-block_length-pow zero b size few whole = omega arith
-block_length-pow (suc zero) b size few whole = omega arith
-block_length-pow (suc (suc zero)) b size few whole = omega arith
-block_length-pow (suc (suc (suc zero))) b size few whole = omega arith
-block_length-pow (suc (suc (suc (suc zero)))) b size few whole = omega arith
-block_length-pow (suc (suc (suc (suc (suc zero))))) b size few whole = omega arith
 block_length-pow (suc (suc (suc (suc (suc (suc k)))))) b size few whole = absurd (omega arith)
+block_length-pow n b size few whole = omega arith
 
 block_length-exact : (b size align : ℕ) → b % 32 ≡ 0 → IsPowerOfTwo align → align ≤ 32 → block_length b (payload_of b align) size ≡ request_size size align
 block_length-exact b size align whole power small = grind (arith, block_length-pow, floor_log2-mono, IsPowerOfTwo-positive)
@@ -188,12 +183,9 @@ deallocation_keeps_uniform len s t c addr is step =
 
 step_uniform : (len fllen sllen : ℕ) (memory : Range) (s t : State) (c : Range) (e : Event) → IsWellFormed fllen sllen memory s → IsUniform len c s → MayCall memory s e
     → AsksUniformly len e → Leads fllen sllen s e t → IsUniform len c t
-step_uniform len fllen sllen memory s t c (insert r reply) w is may asks step = absurd asks
-step_uniform len fllen sllen memory s t c (append r reply) w is may asks step = absurd asks
 step_uniform len fllen sllen memory s t c (allocate size align reply) w is may (same, small) step =
     subst (λ n. IsUniform n c t) same (allocation_keeps_uniform fllen sllen memory s t c size align reply w may small (subst (λ n. IsUniform n c s) (sym same) is) step)
 step_uniform len fllen sllen memory s t c (deallocate addr) w is may asks step = deallocation_keeps_uniform len s t c addr is step
-step_uniform len fllen sllen memory s t c (reallocate addr size reply) w is may asks step = absurd asks
 step_uniform len fllen sllen memory s t c (fill addr bytes) w is may asks step =
     subst (IsUniform len c) (sym step.after) (record {
       chunks = is.chunks;
@@ -202,8 +194,7 @@ step_uniform len fllen sllen memory s t c (fill addr bytes) w is may asks step =
           subst (λ b. (b.len ≡ len) × IsTimes c.start len b.start) (sym (ap (λ h. h.block) same)) (is.used u j);
       free = is.free;
     })
-step_uniform len fllen sllen memory s t c (remove r) w is may asks step = absurd asks
-step_uniform len fllen sllen memory s t c (trim n) w is may asks step = absurd asks
+step_uniform len fllen sllen memory s t c e w is may asks step = absurd asks
 
 pub runs_keep_uniform : RunsKeepUniform
 runs_keep_uniform len fllen sllen memory s t c [] w is run asks = subst (IsUniform len c) (sym run) is
@@ -236,16 +227,12 @@ allocation_answers {fllen} {sllen} {memory} s t c size align reply w is begins s
 event_answers : (len : ℕ) {fllen sllen : ℕ} {memory : Range} (s t : State) (c : Range) (e : Event) → IsWellFormed fllen sllen memory s → IsUniform len c s
     → Reaches sllen (class_of sllen len) len
     → AsksUniformly len e → Leads fllen sllen s e t → IsDeniedOnlyAt (blocks_in len c) (length s.used) e
-event_answers len s t c (insert r reply) w is begins asks step = tt
-event_answers len s t c (append r reply) w is begins asks step = tt
 event_answers len {sllen = sllen} s t c (allocate size align reply) w is begins (same, small) step =
     subst (λ n. (reply ≡ None) ↔ (length s.used ≡ blocks_in n c)) same
     (allocation_answers s t c size align reply w (subst (λ n. IsUniform n c s) (sym same) is) (subst (λ n. Reaches sllen (class_of sllen n) n) (sym same) begins) step)
-event_answers len s t c (deallocate addr) w is begins asks step = tt
-event_answers len s t c (reallocate addr size reply) w is begins asks step = tt
-event_answers len s t c (fill addr bytes) w is begins asks step = tt
 event_answers len s t c (remove r) w is begins asks step = absurd asks
 event_answers len s t c (trim n) w is begins asks step = absurd asks
+event_answers len s t c e w is begins asks step = tt
 
 pub uniform_runs_answer : UniformRunsAnswer
 uniform_runs_answer len fllen sllen memory s t c [] w is some begins run asks = tt
