@@ -1,5 +1,5 @@
 -- The chunks that an aligned part with room for a pool becomes.
-use Rattle.std.proofs.Common.{◌≡◌, ℕ, ◌+◌, ◌-◌, ◌%◌, ◌<◌, ◌≤◌, List, [], ◌∷◌, Option, Some, None, arith, refl, sym, ap, subst, inl, inr}
+use Rattle.std.proofs.Common.{◌≡◌, ℕ, ◌+◌, ◌-◌, ◌%◌, ◌<◌, ◌≤◌, List, [], ◌∷◌, Option, Some, arith, refl, sym, ap, subst, inl, inr}
 use Rattle.rlsf_base.specs.declared.memory.range.Range.{Range}
 use Rattle.rlsf_base.specs.Range.{end_of, range_at}
 use Rattle.rlsf_base.specs.Sizes.{max_pool_size}
@@ -42,8 +42,7 @@ pub record AreCutFrom (e : ℕ) (part : Range) (end : ℕ) (cs : List Range) : T
   pub nearly : end_of part ≤ end + 32
 
 first_length-long : (o : Option ℕ) (e len : ℕ) → ((p : ℕ) → o ≡ Some p → e ≤ p) → e ≤ len → e ≤ first_length o len
-first_length-long None e len short long = long
-first_length-long (Some p) e len short long = let most = short p refl in omega arith
+first_length-long o e len short long = grind arith
 
 pub AreCutFrom-cut : (fllen e : ℕ) (part : Range) → 0 < fllen → 64 ≤ e → ((p : ℕ) → max_pool_size fllen ≡ Some p → e ≤ p) → part.len % 32 ≡ 0
     → e ≤ part.len

@@ -79,9 +79,7 @@ module _ {fllen sllen : ℕ} {memory : Range} {s : State} (w : IsWellFormed flle
     -- and each call that takes no memory away keeps the budget
     pub budget_kept : (e : Event) → (IsRemoval e → ⊥) → Leads fllen sllen s e t → IsSizedForBudget sllen count bytes size align t.chunks
     unfolding IsSizedForBudget
-    budget_kept e left step =
-        let (fronts, are, room) = sized in
-        (fronts, AreFronts-kept fllen sllen s fronts are t e left step, room)
+    budget_kept e left step = grind (arith, AreFronts-kept)
 
 -- ---- a pool of the length that is computed
 

@@ -10,9 +10,9 @@ use Rattle.rlsf_base.specs.PowerOfTwo.{IsPowerOfTwo}
 use Rattle.rlsf_base.specs.Sizes.{request_size}
 use Rattle.rlsf_base.proofs.Numbers.Roundings.{round32-mono}
 use Rattle.rlsf_model.specs.Allocate.{placed, Allocates}
-use Rattle.rlsf_model.specs.Budget.{total_len, used_bytes, AreFronts, IsFront, AreAtMost, IsModest, IsFrugal, IsRequest, RunsFrugally, RunsModestly, HasBudget, HasRoomForBudget, IsDenied, live_after, AsksWithin, AreWithin}
+use Rattle.rlsf_model.specs.Budget.{total_len, used_bytes, AreFronts, AreAtMost, IsModest, IsFrugal, IsRequest, RunsFrugally, RunsModestly, HasBudget, HasRoomForBudget, IsDenied, live_after, AsksWithin, AreWithin}
 use Rattle.rlsf_model.specs.Lists.{IsIn}
-use Rattle.rlsf_model.specs.Reallocate.{Plan, plan, moved, ReallocatesBy}
+use Rattle.rlsf_model.specs.Reallocate.{Plan, plan, ReallocatesBy}
 use Rattle.rlsf_model.specs.Release.{Deallocates}
 use Rattle.rlsf_model.specs.Run.{Event, insert, append, allocate, deallocate, reallocate, fill, remove, trim, IsRemoval, Leads, MayCall, Runs}
 use Rattle.rlsf_model.specs.Sizing.{FrugalRunsAreNotDenied, ModestRunsAreNotDenied, LiveIsCounted, BoundedRunsAreNotDenied}
@@ -30,6 +30,7 @@ use Rattle.rlsf_model.proofs.Payloads.{payload_of-le, block_length-request}
 use Rattle.rlsf_model.proofs.Plans.{IsSoundPlan, IsSound-plan}
 use Rattle.rlsf_model.proofs.Steps.{steps_keep_well_formed}
 use Rattle.rlsf_model.proofs.Sums.{bytes_add_up, taken_free}
+use Rattle.rlsf_model.proofs.UsedBlocks.{Goes, IsGivenAlign, as_before, in_turn, one_filled, one_less, one_more, step_goes}
 
 -- ---- one call
 
@@ -87,14 +88,7 @@ not_denied live most {s = s} w fronts are small budget few size align fits t ste
 
 -- a call within a budget takes no memory away
 pub IsModest-stays : (live most : ℕ) (s : State) (e : Event) → IsModest live most s e → IsRemoval e → ⊥
-IsModest-stays live most s (insert r reply) modest removal = removal
-IsModest-stays live most s (append r reply) modest removal = removal
-IsModest-stays live most s (allocate size align reply) modest removal = removal
-IsModest-stays live most s (deallocate addr) modest removal = removal
-IsModest-stays live most s (reallocate addr size reply) modest removal = removal
-IsModest-stays live most s (fill addr bytes) modest removal = removal
-IsModest-stays live most s (remove r) modest removal = modest
-IsModest-stays live most s (trim n) modest removal = modest
+IsModest-stays live most s e modest removal = grind arith
 
 -- each step that takes no memory away keeps the fronts of chunks
 pub AreFronts-kept : (fllen sllen : ℕ) (s : State) (fronts : List Range) → AreFronts s.chunks fronts → (t : State) (e : Event) → (IsRemoval e → ⊥)
@@ -130,9 +124,7 @@ module _ (most : ℕ) {fllen sllen : ℕ} {memory : Range} {s : State} (w : IsWe
       still step.after (λ u. elim [ inl same ↦ subst (λ x. x.block.len ≤ most) (sym same) v_len | inr i ↦ small u i ])
 
   plan_modest : (u : Used) (size : ℕ) (p : Plan) → IsPowerOfTwo u.align → IsSoundPlan s u size p → request_size size u.align ≤ most → p.block.len ≤ most
-  plan_modest u size p power sound fits =
-      let whole = sound.whole in
-      omega (arith, sound.placed, sound.within, sound.few, whole.len, payload_of-le p.block.start u.align whole.start power)
+  plan_modest u size p power sound fits = grind (arith, payload_of-le)
 
 module _ (most : ℕ) {fllen sllen : ℕ} {memory : Range} {s : State} (w : IsWellFormed fllen sllen memory s) (small : AreAtMost most s.used) where
   reallocate_modest : (u : Used) → IsIn u s.used → (size : ℕ) → request_size size u.align ≤ most → (o : Option Plan) → plan s u size ≡ o
@@ -153,8 +145,7 @@ module _ (most : ℕ) {fllen sllen : ℕ} {memory : Range} {s : State} (w : IsWe
   step_modest live t (reallocate addr size reply) may modest step =
       reallocate_modest step.block step.holds.0 size (modest.1 step.block step.holds) (plan s step.block size) refl reply t step.step
   step_modest live t (fill addr bytes) may modest step = still step.after (filled_modest most s.used addr bytes small)
-  step_modest live t (remove r) may modest step = absurd modest
-  step_modest live t (trim n) may modest step = absurd modest
+  step_modest live t e may modest step = absurd modest
 
 -- ---- calls for which there is room
 
@@ -190,14 +181,7 @@ frugal_runs_are_not_denied live bytes most fllen sllen memory s t fronts (d ∷ 
 
 -- few payloads are live before a modest call that requests bytes
 few_live : (live most : ℕ) (s : State) (e : Event) → IsModest live most s e → IsRequest e → length s.used ≤ live
-few_live live most s (insert r reply) modest asks = absurd asks
-few_live live most s (append r reply) modest asks = absurd asks
-few_live live most s (allocate size align reply) modest asks = modest.0
-few_live live most s (deallocate addr) modest asks = absurd asks
-few_live live most s (reallocate addr size reply) modest asks = modest.0
-few_live live most s (fill addr bytes) modest asks = absurd asks
-few_live live most s (remove r) modest asks = absurd asks
-few_live live most s (trim n) modest asks = absurd asks
+few_live live most s e modest asks = grind arith
 
 -- a modest run is frugal: the used blocks have the bytes of as many of the greatest length, or fewer
 runs_frugally : (live most fllen sllen : ℕ) (memory : Range) (s t : State) (es : List Event) → IsWellFormed fllen sllen memory s → AreAtMost most s.used
@@ -261,59 +245,31 @@ pub AreAligned : ℕ → List Used → Type 0
 AreAligned most used = (u : Used) → IsIn u used → u.align ≤ most
 
 module _ (most : ℕ) where
-  aligned_by : {t r : State} → t ≡ r → AreAligned most r.used → AreAligned most t.used
-  aligned_by is = subst (λ x. AreAligned most x.used) (sym is)
-
-  aligned_cons : (v : Used) (used : List Used) → v.align ≤ most → AreAligned most used → AreAligned most (v ∷ used)
+  pub aligned_none : (used : List Used) → used ≡ [] → AreAligned most used
   unfolding AreAligned
-  aligned_cons v used fits small u (inl same) = subst (λ x. x.align ≤ most) (sym same) fits
-  aligned_cons v used fits small u (inr i) = small u i
-
-  aligned_others : (addr : ℕ) (used : List Used) → AreAligned most used → AreAligned most (others addr used)
-  unfolding AreAligned
-  aligned_others addr used small u i = small u (IsIn-others addr u used i).0
+  aligned_none used is u i = absurd (subst (IsIn u) is i)
 
   aligned_at : (u : Used) (used : List Used) → AreAligned most used → IsIn u used → u.align ≤ most
   unfolding AreAligned
   aligned_at u used small i = small u i
 
-  aligned_filled : (addr : ℕ) (bytes : List ℕ) (used : List Used) → AreAligned most used → AreAligned most (filled_at addr bytes used)
+  aligned_after : {first : List Used} {e : Event} {before after : List Used} → ((n : ℕ) → IsGivenAlign first e n → n ≤ most) → Goes first e before after
+      → AreAligned most before → AreAligned most after
   unfolding AreAligned
-  aligned_filled addr bytes used small v i =
-      let (u, j, same) = shape-filled_from addr bytes v used i in
+  aligned_after fits (as_before is) small u i = small u (subst (IsIn u) is i)
+  aligned_after fits (one_more v returns align is) small u i = elim (subst (IsIn u) is i) [
+    | inl at ↦ subst (λ x. x.align ≤ most) (sym at) (fits v.align align)
+    | inr j ↦ small u j
+  ]
+  aligned_after {before = before} fits (one_less a names is) small u i = small u (IsIn-others a u before (subst (IsIn u) is i)).0
+  aligned_after {before = before} fits (one_filled a bytes names is) small v i =
+      let (u, j, same) = shape-filled_from a bytes v before (subst (IsIn v) is i) in
       subst (λ n. n ≤ most) (sym (ap (λ h. h.align) same)) (small u j)
-
-  pub aligned_none : (used : List Used) → used ≡ [] → AreAligned most used
-  unfolding AreAligned
-  aligned_none used is u i = absurd (subst (IsIn u) is i)
-
-  allocate_aligned : (sllen size align : ℕ) (reply : Option ℕ) (s t : State) → align ≤ most → AreAligned most s.used → Allocates sllen s size align reply t
-      → AreAligned most t.used
-  allocate_aligned sllen size align None s t fits small step = aligned_by step.1 small
-  allocate_aligned sllen size align (Some addr) s t fits small step = aligned_by step.after (aligned_cons (placed step.range size align step.bytes) s.used fits small)
-
-  reallocate_aligned : (sllen size : ℕ) (u : Used) (o : Option Plan) (reply : Option ℕ) (s t : State) → u.align ≤ most → AreAligned most s.used
-      → ReallocatesBy sllen s u size o reply t → AreAligned most t.used
-  reallocate_aligned sllen size u (Some p) None s t fits small step = absurd step
-  reallocate_aligned sllen size u (Some p) (Some addr) s t fits small step =
-      aligned_by step.after (aligned_cons (moved u p step.bytes) (others u.payload s.used) fits (aligned_others u.payload s.used small))
-  reallocate_aligned sllen size u None None s t fits small step = aligned_by step.1 small
-  reallocate_aligned sllen size u None (Some addr) s t fits small step =
-      aligned_by step.released.after
-      (aligned_others step.released.block.payload step.meanwhile.used (allocate_aligned sllen size u.align (Some addr) s step.meanwhile fits small step.allocated))
+  aligned_after fits (in_turn between x y) small u i = aligned_after fits y (aligned_after fits x small) u i
 
   pub step_aligned : (live size n fllen sllen : ℕ) (s t : State) (e : Event) → AsksWithin live size most n e → AreAligned most s.used → Leads fllen sllen s e t
       → AreAligned most t.used
-  step_aligned live size n fllen sllen s t (insert r reply) within small step = subst (AreAligned most) (sym (used-inserted fllen s t r reply step)) small
-  step_aligned live size n fllen sllen s t (append r reply) within small step = subst (AreAligned most) (sym (used-appended fllen s t r reply step)) small
-  step_aligned live size n fllen sllen s t (allocate z align reply) (few, short, fits) small step = allocate_aligned sllen z align reply s t fits small step
-  step_aligned live size n fllen sllen s t (deallocate addr) within small step = aligned_by step.after (aligned_others step.block.payload s.used small)
-  step_aligned live size n fllen sllen s t (reallocate addr z reply) within small step =
-      reallocate_aligned sllen z step.block (plan s step.block z) reply s t (aligned_at step.block s.used small step.holds.0) small step.step
-  step_aligned live size n fllen sllen s t (fill addr bytes) within small step =
-      aligned_by step.after (aligned_filled addr bytes s.used small)
-  step_aligned live size n fllen sllen s t (remove r) within small step = absurd within
-  step_aligned live size n fllen sllen s t (trim k) within small step = absurd within
+  step_aligned live size n fllen sllen s t e within small step = grind (arith, aligned_after, step_goes, aligned_at)
 
 -- ---- runs, by their calls alone
 
@@ -322,15 +278,7 @@ request_size-mono size align most_size most_align short fits = round32-mono (siz
 
 pub modest_by : (live size align n : ℕ) (s : State) (e : Event) → length s.used ≡ n → AreAligned align s.used → AsksWithin live size align n e
     → IsModest live (request_size size align) s e
-modest_by live size align n s (insert r reply) count small within = tt
-modest_by live size align n s (append r reply) count small within = tt
-modest_by live size align n s (allocate z a reply) count small (few, short, fits) = (omega arith, request_size-mono z a size align short fits)
-modest_by live size align n s (deallocate addr) count small within = tt
-modest_by live size align n s (reallocate addr z reply) count small (few, short) =
-    (omega arith, λ u holds. request_size-mono z u.align size align short (aligned_at align u s.used small holds.0))
-modest_by live size align n s (fill addr bytes) count small within = tt
-modest_by live size align n s (remove r) count small within = absurd within
-modest_by live size align n s (trim k) count small within = absurd within
+modest_by live size align n s e count small within = grind (arith, request_size-mono, aligned_at)
 
 runs_modestly : (live size align n fllen sllen : ℕ) (memory : Range) (s t : State) (es : List Event) → IsWellFormed fllen sllen memory s → length s.used ≡ n
     → AreAligned align s.used
@@ -356,7 +304,4 @@ bounded_runs_are_not_denied live size align fllen sllen memory s t fronts es w i
 
 -- a chunk that isn't empty is one front
 pub AreFronts-one : (c : Range) (chunks : List Range) → IsIn c chunks → 0 < c.len → AreFronts chunks (c ∷ [])
-AreFronts-one c chunks i some = record {
-  each = λ r. elim [ inl same ↦ subst (IsFront chunks) (sym same) (c, i, refl, omega arith, some) | inr none ↦ absurd none ];
-  disjoint = λ a. omega (arith, covers-le c a);
-}
+AreFronts-one c chunks i some = grind (arith, covers-le)

@@ -1,23 +1,26 @@
 -- What callers see of the reference model: a map from addresses to payloads.
-use Rattle.std.proofs.Common.{◌≡◌, ◌≢◌, ◌⊎◌, ℕ, eqb, length, Option, Some, None, find, true≢false, arith, refl, sym, ◌∙◌, ap, subst, inl, inr}
+use Rattle.std.proofs.Common.{◌≡◌, ◌≢◌, ℕ, ◌-◌, ◌≤◌, List, ◌∷◌, eqb, Option, Some, None, find, true≢false, arith, refl, sym, ◌∙◌, ap, subst, inl, inr}
 use Rattle.std.proofs.lemmas.Bool.{eq-eqb, eqb-true}
 use Rattle.std.proofs.lemmas.Option.{none-some}
 use Rattle.std.specs.Option.{option_map}
 use Rattle.rlsf_base.specs.declared.memory.range.Range.{Range}
-use Rattle.rlsf_model.specs.Callers.{Payload, payload_in, payload_at, IsSameMap, IsSet}
+use Rattle.rlsf_model.specs.Allocate.{Places, placed}
+use Rattle.rlsf_model.specs.Callers.{Changes, Payload, payload_in, payload_at, IsSameMap, IsSet}
 use Rattle.rlsf_model.specs.Laws.{CallersSeeMap, CallReturns, PayloadIsInBlock}
 use Rattle.rlsf_model.specs.Lists.{IsIn}
-use Rattle.rlsf_model.specs.Reallocate.{Plan, plan, moved, ReallocatesBy}
-use Rattle.rlsf_model.specs.Run.{Event, insert, append, allocate, deallocate, reallocate, fill, remove, trim, Leads, MayCall, CallNames}
-use Rattle.rlsf_model.specs.State.{State, Used, Holds, others, used_with_bytes}
-use Rattle.rlsf_model.specs.WellFormed.{IsWellFormed}
+use Rattle.rlsf_model.specs.Reallocate.{Plan, plan, ReallocatesBy}
+use Rattle.rlsf_model.specs.Run.{Event, allocate, deallocate, reallocate, fill, Leads, MayCall, CallNames}
+use Rattle.rlsf_model.specs.State.{State, Used, Holds, used_with_bytes}
+use Rattle.rlsf_model.specs.WellFormed.{coverage, IsWellFormed}
 use Rattle.rlsf_model.proofs.Changes.{Holds-unique, IsIn-others}
-use Rattle.rlsf_model.proofs.Coverage.{find-some, find-none}
+use Rattle.rlsf_model.proofs.Coverage.{covers-inside, coverage-IsIn, find-some, find-none}
 use Rattle.rlsf_model.proofs.Determined.{refusal_changes_nothing}
 use Rattle.rlsf_model.proofs.Fillings.{filled_holds}
-use Rattle.rlsf_model.proofs.Live.{allocation_has_size, handed_out_is_new, other_payloads_stay, reallocated_is_live, reallocation_keeps_bytes, released_is_not_live}
-use Rattle.rlsf_model.proofs.Live.{used_was_used}
+use Rattle.rlsf_model.proofs.Live.{reallocated_is_live, reallocation_keeps_bytes, released_is_not_live}
+use Rattle.rlsf_model.proofs.Payloads.{IsUsed-after_start, payload_of-after, block_length-le, block_length-lt}
 use Rattle.rlsf_model.proofs.Steps.{steps_keep_well_formed}
+use Rattle.rlsf_model.proofs.Tiling.{block_of, tiling_of, used-le}
+use Rattle.rlsf_model.proofs.UsedBlocks.{Goes, one_more, stays, step_goes, was}
 
 -- a used block whose caller has the address, with that payload
 abbrev Has : State → ℕ → Payload → Type 0
@@ -51,98 +54,108 @@ payload_at-none s addr none = go (payload_at s addr) refl
 pub payload_is_in_block : PayloadIsInBlock
 payload_is_in_block fllen sllen memory s addr p w = (payload_at-has s addr p, λ (u, held, is). payload_at-held w addr u held ∙ ap Some is)
 
-module _ {fllen sllen : ℕ} {memory : Range} {s : State} (w : IsWellFormed fllen sllen memory s) (t : State) (e : Event) (may : MayCall memory s e)
-    (step : Leads fllen sllen s e t) where
-  after : IsWellFormed fllen sllen memory t
-  after = steps_keep_well_formed fllen sllen memory s t e w may step
+-- behind the first used block of a well-formed state none has its address
+pub first_alone : {fllen sllen : ℕ} {memory : Range} {t : State} → IsWellFormed fllen sllen memory t → (v u : Used) (rest : List Used) → t.used ≡ v ∷ rest
+    → IsIn u rest → u.payload ≢ v.payload
+first_alone {t = t} whole v u rest is i at =
+    let iv = whole.used v (subst (IsIn v) (sym is) (inl refl)) in
+    let iu = whole.used u (subst (IsIn u) (sym is) (inr i)) in
+    let a = v.payload - 1 in
+    let v_start = IsUsed-after_start v iv in
+    let u_start = IsUsed-after_start u iu in
+    let mine = covers-inside v.block a (omega (arith, v_start)) (omega (arith, v_start, iv.within)) in
+    let its = covers-inside u.block a (omega (arith, at, u_start)) (omega (arith, at, u_start, iu.within)) in
+    let once = subst (λ used. coverage block_of used a ≤ 1) is (used-le t (tiling_of whole) a) in
+    omega (arith, mine, its, once, coverage-IsIn block_of u rest a i)
 
+module _ {fllen sllen : ℕ} {before after : Range} {s t : State} (w : IsWellFormed fllen sllen before s) (w' : IsWellFormed fllen sllen after t) where
   -- what a step names neither in its call nor in its reply is as it was
-  pub payload_at-unnamed : (a : ℕ) → (CallNames e a → ⊥) → (CallReturns e a → ⊥) → payload_at t a ≡ payload_at s a
-  payload_at-unnamed a other new = go (payload_at s a) refl
+  pub payload_at-unnamed : (e : Event) → Goes s.used e s.used t.used → (a : ℕ) → (CallNames e a → ⊥) → (CallReturns e a → ⊥) → payload_at t a ≡ payload_at s a
+  payload_at-unnamed e goes a other new = go (payload_at s a) refl
     where
       go : (o : Option Payload) → payload_at s a ≡ o → payload_at t a ≡ o
       go (Some p) told =
           let (u, held, is) = payload_at-has s a p told in
-          let stays = other_payloads_stay fllen sllen s t e u step held.0 (λ names. other (subst (CallNames e) held.1 names)) in
-          payload_at-held after a u (stays, held.1) ∙ ap Some is
+          payload_at-held w' a u (stays u (λ names. other (subst (CallNames e) held.1 names)) goes held.0, held.1) ∙ ap Some is
       go None told = payload_at-none t a (λ v held.
-          let was = used_was_used fllen sllen s t e v step held.0 (λ names. other (subst (CallNames e) held.1 names)) (λ gives. new (subst (CallReturns e) held.1 gives)) in
-          none-some (payload_in v) (sym told ∙ payload_at-held w a v (was, held.1)))
+          let i = was v (λ names. other (subst (CallNames e) held.1 names)) (λ gives. new (subst (CallReturns e) held.1 gives)) goes held.0 in
+          none-some (payload_in v) (sym told ∙ payload_at-held w a v (i, held.1)))
 
--- what changes at one address alone
-changed : {fllen sllen : ℕ} {memory : Range} {s : State} → IsWellFormed fllen sllen memory s → (t : State) (e : Event) → MayCall memory s e → Leads fllen sllen s e t
-    → (addr : ℕ) (now : Option Payload)
-    → payload_at t addr ≡ now → ((a : ℕ) → a ≢ addr → CallNames e a → ⊥) → ((a : ℕ) → a ≢ addr → CallReturns e a → ⊥)
-    → IsSet (payload_at s) addr now (payload_at t)
-changed {s = s} w t e may step addr now here other new = record { here = here; others = λ a apart. payload_at-unnamed w t e may step a (other a apart) (new a apart) }
+  -- what changes at one address alone
+  changed : (e : Event) → Goes s.used e s.used t.used → (addr : ℕ) (now : Option Payload) → payload_at t addr ≡ now → ((a : ℕ) → a ≢ addr → CallNames e a → ⊥)
+      → ((a : ℕ) → a ≢ addr → CallReturns e a → ⊥) → IsSet (payload_at s) addr now (payload_at t)
+  changed e goes addr now here other new = record { here = here; others = λ a apart. payload_at-unnamed e goes a (other a apart) (new a apart) }
+
+  -- an allocation from a state with the same used blocks
+  pub placed_changes : (m : State) → m.used ≡ s.used → (size align addr : ℕ) → Places sllen m size align addr t
+      → Changes (payload_at s) (allocate size align (Some addr)) (payload_at t)
+  placed_changes m same size align addr step =
+      let b = placed step.range size align step.bytes in
+      let is : t.used ≡ b ∷ s.used = ap (λ (x : State). x.used) step.after ∙ ap (λ l. b ∷ l) same in
+      let held : Holds t addr b = (subst (IsIn b) (sym is) (inl refl), sym step.answer) in
+      let after_start = payload_of-after step.range.start align in (
+        payload_in b,
+        payload_at-none s addr (λ v (i, at). first_alone w' b v s.used is i (at ∙ step.answer)),
+        record {
+          aligned = refl;
+          enough = omega (arith, step.length, step.answer, after_start, block_length-le step.range.start b.payload size);
+          few = omega (arith, step.length, step.answer, after_start, block_length-lt step.range.start b.payload size);
+        },
+        changed (allocate size align (Some addr)) (one_more b (ap Some step.answer) refl is) addr (Some (payload_in b)) (payload_at-held w' addr b held) (λ a apart bad. bad)
+            (λ a apart gives. let at : addr ≡ a = cc in apart (sym at)),
+      )
 
 -- a payload that moved is not at its old address
 module _ (s t : State) (u : Used) (size to : ℕ) (apart : to ≢ u.payload) where
   left_behind : (sllen : ℕ) (o : Option Plan) → ReallocatesBy sllen s u size o (Some to) t → (x : Used) → Holds t u.payload x → ⊥
-  left_behind sllen (Some p) step x held =
-      let among : (x ≡ moved u p step.bytes) ⊎ IsIn x (others u.payload s.used) = subst (λ (y : State). IsIn x y.used) step.after held.0 in
-      elim among [
-        | inl same ↦ apart (step.answer ∙ sym (ap (λ (y : Used). y.payload) same) ∙ held.1)
-        | inr i ↦ (IsIn-others u.payload x s.used i).1 held.1
-      ]
-  left_behind sllen None step x held = released_is_not_live step.meanwhile t u.payload x.align step.released (x, held, refl)
+  left_behind sllen o step x held = grind (arith, IsIn-others, released_is_not_live)
 
 unchanged : {s t : State} → t ≡ s → IsSameMap (payload_at s) (payload_at t)
 unchanged same a = ap (λ x. payload_at x a) same
 
 pub callers_see_map : CallersSeeMap
-callers_see_map fllen sllen memory s t (insert r reply) w may step = λ a. payload_at-unnamed w t (insert r reply) may step a (λ bad. bad) (λ bad. bad)
-callers_see_map fllen sllen memory s t (append r reply) w may step = λ a. payload_at-unnamed w t (append r reply) may step a (λ bad. bad) (λ bad. bad)
-callers_see_map fllen sllen memory s t (allocate size align None) w may step = unchanged (refusal_changes_nothing fllen sllen s t (allocate size align None) step refl)
-callers_see_map fllen sllen memory s t (allocate size align (Some addr)) w may step =
-    let e = allocate size align (Some addr) in
-    let wt = steps_keep_well_formed fllen sllen memory s t e w may step in
-    let (new, (u, held, is)) = handed_out_is_new fllen sllen memory s t size align addr w may step in
-    let (v, held_too, enough, few) = allocation_has_size fllen sllen memory s t size align (Some addr) w may step in
-    let same : v ≡ u = Holds-unique wt addr v u held_too held in
-    let long = (wt.used v held_too.0).bytes in
-    let as_long : length v.bytes ≡ length u.bytes = ap (λ x. length x.bytes) same in (
-      payload_in u,
-      payload_at-none s addr (λ x was. new x.align (x, was, refl)),
-      record { aligned = is; enough = omega (arith, enough, long, as_long); few = omega (arith, few, long, as_long) },
-      changed w t e may step addr (Some (payload_in u)) (payload_at-held wt addr u held) (λ a apart bad. bad) (λ a apart gives. let same : addr ≡ a = cc in apart (sym same)),
-    )
-callers_see_map fllen sllen memory s t (deallocate addr) w may step =
-    let (u, held) = may in (
+callers_see_map fllen sllen memory s t e w may step = seen e may step
+  where
+    whole : (e : Event) → MayCall memory s e → Leads fllen sllen s e t → IsWellFormed fllen sllen memory t
+    whole e may step = steps_keep_well_formed fllen sllen memory s t e w may step
+
+    seen : (e : Event) → MayCall memory s e → Leads fllen sllen s e t → Changes (payload_at s) e (payload_at t)
+    seen (allocate size align None) may step = unchanged (refusal_changes_nothing fllen sllen s t (allocate size align None) step refl)
+    seen (allocate size align (Some addr)) may step = placed_changes w (whole (allocate size align (Some addr)) may step) s refl size align addr step
+    seen (deallocate addr) (u, held) step = (
       payload_in u,
       payload_at-held w addr u held,
-      changed w t (deallocate addr) may step addr None (payload_at-none t addr (λ v gone. released_is_not_live s t addr v.align step (v, gone, refl)))
-          (λ a apart names. apart (sym names)) (λ a apart bad. bad),
+      changed w (whole (deallocate addr) (u, held) step) (deallocate addr) (step_goes fllen sllen s t (deallocate addr) step) addr None
+          (payload_at-none t addr (λ v gone. released_is_not_live s t addr v.align step (v, gone, refl))) (λ a apart names. apart (sym names)) (λ a apart bad. bad),
     )
-callers_see_map fllen sllen memory s t (reallocate addr size None) w may step = unchanged (refusal_changes_nothing fllen sllen s t (reallocate addr size None) step refl)
-callers_see_map fllen sllen memory s t (reallocate addr size (Some to)) w may step =
-    let e = reallocate addr size (Some to) in
-    let wt = steps_keep_well_formed fllen sllen memory s t e w may step in
-    let (u, held) = may in
-    let (v, now, aligned, kept, enough, few) = reallocation_keeps_bytes fllen sllen memory s t addr size to u w held step in
-    let (live, new) = reallocated_is_live fllen sllen memory s t addr size to u.align w (u, held, refl) step in
-    let long = (wt.used v now.0).bytes in
-    record {
-      old = payload_in u;
-      was = payload_at-held w addr u held;
-      now = payload_in v;
-      serves = record { aligned = aligned; enough = omega (arith, enough, long); few = omega (arith, few, long) };
-      kept = kept;
-      new = λ apart. payload_at-none s to (λ x was. apart (new x.align (x, was, refl)));
-      here = payload_at-held wt to v now;
-      left = λ apart. payload_at-none t addr (λ x (i, at).
-          let same = step.holds.1 in
-          left_behind s t step.block size to (λ back. apart (back ∙ same)) sllen (plan s step.block size) step.step x (i, at ∙ sym same));
-      others = λ a other_a other_to. payload_at-unnamed w t e may step a (λ names. other_a (sym names)) (λ gives. let same : to ≡ a = cc in other_to (sym same));
-    }
-callers_see_map fllen sllen memory s t (fill addr bytes) w may step =
-    let u = step.block in
-    let wt = steps_keep_well_formed fllen sllen memory s t (fill addr bytes) w may step in
-    let v = used_with_bytes u bytes in (
-      payload_in u,
-      payload_at-held w addr u step.holds,
-      step.length,
-      changed w t (fill addr bytes) may step addr (Some (payload_in v)) (payload_at-held wt addr v (filled_holds step)) (λ a apart names. apart (sym names)) (λ a apart bad. bad),
-    )
-callers_see_map fllen sllen memory s t (remove r) w may step = λ a. payload_at-unnamed w t (remove r) may step a (λ bad. bad) (λ bad. bad)
-callers_see_map fllen sllen memory s t (trim count) w may step = absurd step
+    seen (reallocate addr size None) may step = unchanged (refusal_changes_nothing fllen sllen s t (reallocate addr size None) step refl)
+    seen (reallocate addr size (Some to)) (u, held) step =
+        let e = reallocate addr size (Some to) in
+        let wt = whole e (u, held) step in
+        let (v, now, aligned, kept, enough, few) = reallocation_keeps_bytes fllen sllen memory s t addr size to u w held step in
+        let (live, new) = reallocated_is_live fllen sllen memory s t addr size to u.align w (u, held, refl) step in
+        let long = (wt.used v now.0).bytes in
+        record {
+          old = payload_in u;
+          was = payload_at-held w addr u held;
+          now = payload_in v;
+          serves = record { aligned = aligned; enough = omega (arith, enough, long); few = omega (arith, few, long) };
+          kept = kept;
+          new = λ apart. payload_at-none s to (λ x was. apart (new x.align (x, was, refl)));
+          here = payload_at-held wt to v now;
+          left = λ apart. payload_at-none t addr (λ x (i, at).
+              let same = step.holds.1 in
+              left_behind s t step.block size to (λ back. apart (back ∙ same)) sllen (plan s step.block size) step.step x (i, at ∙ sym same));
+          others = λ a other_a other_to.
+              payload_at-unnamed w wt e (step_goes fllen sllen s t e step) a (λ names. other_a (sym names)) (λ gives. let same : to ≡ a = cc in other_to (sym same));
+        }
+    seen (fill addr bytes) may step =
+        let v = used_with_bytes step.block bytes in
+        let wt = whole (fill addr bytes) may step in (
+          payload_in step.block,
+          payload_at-held w addr step.block step.holds,
+          step.length,
+          changed w wt (fill addr bytes) (step_goes fllen sllen s t (fill addr bytes) step) addr (Some (payload_in v)) (payload_at-held wt addr v (filled_holds step))
+              (λ a apart names. apart (sym names)) (λ a apart bad. bad),
+        )
+    seen e may step = λ a. payload_at-unnamed w (whole e may step) e (step_goes fllen sllen s t e step) a (λ bad. bad) (λ bad. bad)

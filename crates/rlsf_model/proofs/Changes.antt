@@ -1,6 +1,7 @@
 -- Changes of the blocks of a state that leave it well-formed.
-use Rattle.std.proofs.Common.{◌≡◌, ◌≢◌, ℕ, ◌+◌, ◌-◌, ◌<◌, ◌≤◌, ◌⊎◌, cond, not, eqb, List, [], ◌∷◌, ◌++◌, true≢false, arith, refl}
+use Rattle.std.proofs.Common.{◌≡◌, ◌≢◌, ℕ, ◌+◌, ◌-◌, ◌<◌, ◌≤◌, cond, not, eqb, List, [], ◌∷◌, ◌++◌, true≢false, arith, refl}
 use Rattle.std.proofs.Common.{sym, ◌∙◌, ap, subst, inl, inr}
+use Rattle.std.proofs.lemmas.Bool.Decides.{nat_tests}
 use Rattle.std.proofs.lemmas.Bool.{cases_lt, lt-ltb, le-ltb, eq-eqb, eqb-true, ne_eqb}
 use Rattle.rlsf_base.specs.declared.memory.range.Range.{Range}
 use Rattle.rlsf_base.specs.Range.{end_of}
@@ -44,13 +45,7 @@ Holds-unique {s = s} w addr u v hu hv =
 
 pub IsIn-others : (addr : ℕ) (v : Used) (used : List Used) → IsIn v (others addr used) → IsIn v used × (v.payload ≢ addr)
 IsIn-others addr v [] h = absurd h
-IsIn-others addr v (x ∷ xs) h = by_test (eqb x.payload addr)
-    (λ e. let rest = IsIn-others addr v xs (subst (λ b. IsIn v (cond (not b) (x ∷ others addr xs) (others addr xs))) e h) in (inr rest.0, rest.1))
-    (λ e. let left : (v ≡ x) ⊎ IsIn v (others addr xs) = subst (λ b. IsIn v (cond (not b) (x ∷ others addr xs) (others addr xs))) e h in
-    elim left [
-      | inl same ↦ (inl same, λ at. true≢false (sym (eq-eqb x.payload addr (ap (λ u. u.payload) (sym same) ∙ at)) ∙ e))
-      | inr i ↦ let rest = IsIn-others addr v xs i in (inr rest.0, rest.1)
-    ])
+IsIn-others addr v (x ∷ xs) h = grind (arith, nat_tests, IsIn-others addr v xs)
 
 pub IsIn-others_from : (addr : ℕ) (v : Used) (used : List Used) → IsIn v used → v.payload ≢ addr → IsIn v (others addr used)
 IsIn-others_from addr v [] h apart = h
@@ -110,11 +105,7 @@ IsApart-within some all within apart f g hf hg = apart f g (within f hf) (within
 -- ---- what a block leaves of a span
 
 pub IsIn-rest_behind : (block : Range) (end : ℕ) (g : Range) → IsIn g (rest_behind block end) → (g ≡ between (end_of block) end) × (end_of block < end)
-IsIn-rest_behind block end g h = elim (cases_lt (end_of block) end) [
-  | inl less ↦ let one : (g ≡ between (end_of block) end) ⊎ ⊥ = subst (λ b. IsIn g (cond b (between (end_of block) end ∷ []) [])) (lt-ltb (end_of block) end less) h in
-      elim one [ inl same ↦ (same, less) | inr bad ↦ absurd bad ]
-  | inr all ↦ absurd (subst (λ b. IsIn g (cond b (between (end_of block) end ∷ []) [])) (le-ltb (end_of block) end all) h)
-]
+IsIn-rest_behind block end g h = grind (arith, cases_lt, lt-ltb, le-ltb)
 
 pub coverage-rest_behind : (block : Range) (end : ℕ) (span : Range) (a : ℕ) → end_of block ≤ end → span.start ≡ block.start → end_of span ≡ end
     → covers span a ≡ covers block a + coverage itself (rest_behind block end) a

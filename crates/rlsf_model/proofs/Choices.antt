@@ -1,7 +1,6 @@
 -- The range that an allocation takes.
-use mathlib.Core.Path.{ap₂}
-use Rattle.std.proofs.Common.{◌≡◌, ℕ, ◌*◌, true, cond, ◌&&◌, ◌||◌, leb, eqb, true≢false, List, [], ◌∷◌, Option, Some, None, find}
-use Rattle.std.proofs.Common.{option_and_then, arith, refl, sym, ◌∙◌, ap, subst, inl, inr}
+use Rattle.std.proofs.Common.{◌≡◌, ℕ, ◌*◌, true, cond, true≢false, List, [], ◌∷◌, Option, Some, None, find}
+use Rattle.std.proofs.Common.{arith, refl, sym, ◌∙◌, ap, subst, inl, inr}
 use Rattle.std.proofs.lemmas.Bool.{cases_lt, leb-true, le-leb, lt-ltb, le-ltb, eqb-true, eq-eqb, and_parts, and_from}
 use Rattle.rlsf_base.specs.declared.memory.range.Range.{Range}
 use Rattle.rlsf_base.specs.SizeClass.{SizeClass, class_of, class_start, reaches, Reaches, IsAtMost}
@@ -11,32 +10,16 @@ use Rattle.rlsf_model.specs.Allocate.{is_at_most, has_class, earlier, least_reac
 use Rattle.rlsf_model.proofs.Coverage.{by_test, find-some, find-none}
 
 pub is_at_most-true : (c d : SizeClass) → is_at_most c d ≡ true → IsAtMost c d
-is_at_most-true c d h = elim (cases_lt c.exponent d.exponent) [
-  | inl less ↦ inl less
-  | inr from ↦
-      let rest =
-      and_parts (eqb c.exponent d.exponent) (leb c.division d.division)
-      (sym (ap (λ b. b || (eqb c.exponent d.exponent && leb c.division d.division)) (le-ltb c.exponent d.exponent from)) ∙ h) in
-      inr (eqb-true c.exponent d.exponent rest.0, leb-true c.division d.division rest.1)
-]
+is_at_most-true c d h = grind (arith, cases_lt, and_parts, le-ltb, eqb-true, leb-true)
 
 pub is_at_most-from : (c d : SizeClass) → IsAtMost c d → is_at_most c d ≡ true
-is_at_most-from c d (inl less) = ap (λ b. b || (eqb c.exponent d.exponent && leb c.division d.division)) (lt-ltb c.exponent d.exponent less)
-is_at_most-from c d (inr (same, order)) =
-    ap (λ b. b || (eqb c.exponent d.exponent && leb c.division d.division)) (le-ltb c.exponent d.exponent (omega arith))
-    ∙ and_from (eqb c.exponent d.exponent) (leb c.division d.division) (eq-eqb c.exponent d.exponent same) (le-leb c.division d.division order)
+is_at_most-from c d h = grind (arith, lt-ltb, le-ltb, and_from, eq-eqb, le-leb)
 
 pub has_class-true : (sllen : ℕ) (c : SizeClass) (f : Range) → has_class sllen c f ≡ true → class_of sllen f.len ≡ c
-has_class-true sllen c f h =
-    let d = class_of sllen f.len in
-    let parts = and_parts (eqb d.exponent c.exponent) (eqb d.division c.division) h in
-    ap₂ (λ k j. record { exponent = k; division = j }) (eqb-true d.exponent c.exponent parts.0) (eqb-true d.division c.division parts.1)
+has_class-true sllen c f h = grind (arith, and_parts, eqb-true)
 
 pub has_class-from : (sllen : ℕ) (c : SizeClass) (f : Range) → class_of sllen f.len ≡ c → has_class sllen c f ≡ true
-has_class-from sllen c f e =
-    let d = class_of sllen f.len in
-    and_from (eqb d.exponent c.exponent) (eqb d.division c.division) (eq-eqb d.exponent c.exponent (ap (λ x. x.exponent) e))
-    (eq-eqb d.division c.division (ap (λ x. x.division) e))
+has_class-from sllen c f e = grind (arith, and_from, eq-eqb)
 
 -- c is the least class that reaches a size among those of some ranges
 pub record IsLeast (sllen size : ℕ) (free : List Range) (c : SizeClass) : Type 0 where
@@ -112,44 +95,16 @@ pub record IsChoice (sllen size : ℕ) (free : List Range) (f : Range) : Type 0 
 
 module _ (sllen size : ℕ) (free : List Range) where
   pub choice-some : (f : Range) → choice sllen size free ≡ Some f → IsChoice sllen size free f
-  choice-some f h = elim (least_of sllen size free) [
-    | none_reaches e none ↦ let bad : None ≡ Some f = sym (ap (λ o. option_and_then (λ c. find (has_class sllen c) free) o) e) ∙ h in absurd (cc)
-    | one_reaches c e l ↦
-        let found : find (has_class sllen c) free ≡ Some f = sym (ap (λ o. option_and_then (λ c. find (has_class sllen c) free) o) e) ∙ h in
-        let is = find-some (has_class sllen c) f free found in
-        let same : class_of sllen f.len ≡ c = has_class-true sllen c f is.1 in
-        record {
-          is_in = is.0;
-          found = subst (λ d. find (has_class sllen d) free ≡ Some f) (sym same) found;
-          reached = subst (λ d. Reaches sllen d size) (sym same) l.reached;
-          least = λ g i r. subst (λ d. IsAtMost d (class_of sllen g.len)) (sym same) (l.least g i r);
-        }
-  ]
+  choice-some f h = grind (arith, least_of, find-some, has_class-true)
 
   -- where nothing is chosen, no free range's class reaches
   pub choice-none : choice sllen size free ≡ None → (g : Range) → IsIn g free → Reaches sllen (class_of sllen g.len) size → ⊥
-  choice-none h = elim (least_of sllen size free) [
-    | none_reaches e none ↦ none
-    | one_reaches c e l ↦
-        let missing : find (has_class sllen c) free ≡ None = sym (ap (λ o. option_and_then (λ c. find (has_class sllen c) free) o) e) ∙ h in
-        absurd (true≢false (sym (has_class-from sllen c l.range l.has) ∙ find-none (has_class sllen c) l.range free missing l.is_in))
-  ]
+  choice-none h = grind (arith, least_of, true≢false, has_class-from, find-none)
 
   -- where no class reaches, nothing is chosen
   pub choice-from_none : ((g : Range) → IsIn g free → Reaches sllen (class_of sllen g.len) size → ⊥) → choice sllen size free ≡ None
-  choice-from_none short = elim (least_of sllen size free) [
-    | none_reaches e none ↦ ap (λ o. option_and_then (λ c. find (has_class sllen c) free) o) e
-    | one_reaches c e l ↦ absurd (short l.range l.is_in (subst (λ d. Reaches sllen d size) (sym l.has) l.reached))
-  ]
+  choice-from_none short = grind (arith, least_of)
 
   -- the range that is found first of the least class that reaches is the choice
   pub choice-from : (f : Range) → IsChoice sllen size free f → choice sllen size free ≡ Some f
-  choice-from f is = elim (least_of sllen size free) [
-    | none_reaches e none ↦ absurd (none f is.is_in is.reached)
-    | one_reaches c e l ↦
-        let below : IsAtMost c (class_of sllen f.len) = l.least f is.is_in is.reached in
-        let above : IsAtMost (class_of sllen f.len) c =
-        subst (IsAtMost (class_of sllen f.len)) l.has (is.least l.range l.is_in (subst (λ d. Reaches sllen d size) (sym l.has) l.reached)) in
-        ap (λ o. option_and_then (λ c. find (has_class sllen c) free) o) e ∙ ap (λ d. find (has_class sllen d) free) (IsAtMost-antisymm c (class_of sllen f.len) below above)
-        ∙ is.found
-  ]
+  choice-from f is = grind (arith, least_of, IsAtMost-antisymm)

@@ -1,18 +1,20 @@
 -- Rows of chunks over the steps.
 use Rattle.std.proofs.Common.{◌≡◌, ◌≢◌, ℕ, zero, suc, ◌+◌, ◌-◌, ◌*◌, ◌/◌, ◌<◌, ◌≤◌, List, [], ◌∷◌, ◌++◌, Option, Some, None, find}
-use Rattle.std.proofs.Common.{true≢false, arith, refl, sym, ◌∙◌, ap, subst, inl, inr}
+use Rattle.std.proofs.Common.{arith, refl, sym, ◌∙◌, ap, subst, inl, inr}
+use Rattle.std.proofs.lemmas.Bool.Decides.{nat_tests}
 use Rattle.std.proofs.lemmas.Bool.{cases_lt, eq-eqb, eqb-true}
 use Rattle.rlsf_base.specs.declared.memory.range.Range.{Range}
 use Rattle.rlsf_base.specs.Range.{end_of, range_at}
 use Rattle.rlsf_base.specs.Rounding.{round32}
 use Rattle.rlsf_base.specs.Sizes.{max_pool_size}
 use Rattle.rlsf_model.specs.ChunkRows.{IsRow}
-use Rattle.rlsf_model.specs.Insert.{adjacent, remainder, cut, aligned_part, with_chunk, with_chunks, end_of_last, bytes_taken, grown_if, extended, appended, appended_bytes}
+use Rattle.rlsf_model.specs.Insert.{adjacent, remainder, cut, aligned_part, with_chunks, end_of_last, bytes_taken, grown_if, extended, appended, appended_bytes}
 use Rattle.rlsf_model.specs.Insert.{IsClear, Inserts, Appends}
 use Rattle.rlsf_model.specs.Join.{ends_at}
 use Rattle.rlsf_model.specs.Lists.{IsIn}
 use Rattle.rlsf_model.specs.State.{State, between}
 use Rattle.rlsf_model.specs.WellFormed.{itself, IsWellFormed}
+use Rattle.rlsf_model.proofs.AddedChunks.{IsIn-with_chunks_new}
 use Rattle.rlsf_model.proofs.Chunks.{IsIn-without_found, IsIn-with_chunks_old}
 use Rattle.rlsf_model.proofs.Coverage.{covers-inside, coverage-IsIn, find-some, find-none}
 use Rattle.rlsf_model.proofs.Cuts.{remainder-none, remainder-one}
@@ -28,22 +30,14 @@ IsAdjacent at (c ∷ cs) = (c.start ≡ at) × IsAdjacent (end_of c) cs
 IsAdjacent-adjacent : (n at len : ℕ) (cs : List Range) → IsAdjacent (at + n * len) cs → IsAdjacent at (adjacent at len n ++ cs)
 unfolding IsAdjacent
 IsAdjacent-adjacent zero at len cs h = let same : at + zero * len ≡ at = omega arith in subst (λ a. IsAdjacent a cs) same h
-IsAdjacent-adjacent (suc n) at len cs h =
-    let same : at + suc n * len ≡ at + len + n * len = omega arith in
-    (refl, IsAdjacent-adjacent n (at + len) len cs (subst (λ a. IsAdjacent a cs) same h))
+IsAdjacent-adjacent (suc n) at len cs h = grind (arith, IsAdjacent-adjacent n (at + len) len cs, IsAdjacent)
 
 IsAdjacent-remainder : (at len : ℕ) → IsAdjacent at (remainder at len)
 unfolding IsAdjacent
-IsAdjacent-remainder at len = elim (cases_lt len 64) [
-  | inl short ↦ subst (IsAdjacent at) (sym (remainder-none at len short)) tt
-  | inr room ↦ subst (IsAdjacent at) (sym (remainder-one at len room)) (refl, tt)
-]
+IsAdjacent-remainder at len = grind (arith, cases_lt, remainder-none, remainder-one)
 
 IsAdjacent-cut : (o : Option ℕ) (part : Range) → IsAdjacent part.start (cut o part)
-IsAdjacent-cut None part = IsAdjacent-remainder part.start part.len
-IsAdjacent-cut (Some most) part =
-    let n = part.len / most in
-    IsAdjacent-adjacent n part.start most (remainder (part.start + n * most) (part.len - n * most)) (IsAdjacent-remainder (part.start + n * most) (part.len - n * most))
+IsAdjacent-cut o part = grind (arith, IsAdjacent-remainder, IsAdjacent-adjacent)
 
 end_of_last-le : (at : ℕ) (cs : List Range) → IsAdjacent at cs → at ≤ end_of_last at cs
 unfolding IsAdjacent
@@ -64,11 +58,6 @@ IsInOne-adjacent at (c ∷ cs) (start, rest) a low high = elim (cases_lt a (end_
   where
     more : IsInOne cs (end_of c) (end_of_last (end_of c) cs) a → IsInOne (c ∷ cs) at (end_of_last (end_of c) cs) a
     more (d, i, from, low', high', to) = (d, inr i, omega arith, low', high', to)
-
-IsIn-with_chunks_new : (c : Range) (cs : List Range) (r : State) → IsIn c cs → IsIn c (with_chunks cs r).chunks
-IsIn-with_chunks_new c [] r i = absurd i
-IsIn-with_chunks_new c (d ∷ cs) r (inl same) = IsIn-with_chunks_old c cs (with_chunk d r) (inl same)
-IsIn-with_chunks_new c (d ∷ cs) r (inr i) = IsIn-with_chunks_new c cs (with_chunk d r) i
 
 -- ---- rows that stay
 
@@ -94,16 +83,12 @@ IsRow-cut : (s : State) (o : Option ℕ) (part : Range) (a : ℕ) → part.start
     → IsInOne (with_chunks (cut o part) s).chunks part.start (end_of_last part.start (cut o part)) a
 IsRow-cut s o part a low high =
     let (c, i, from, low', high', to) = IsInOne-adjacent part.start (cut o part) (IsAdjacent-cut o part) a low high in
-    (c, IsIn-with_chunks_new c (cut o part) s i, from, low', high', to)
+    (c, (IsIn-with_chunks_new c (cut o part) s i).0, from, low', high', to)
 
 -- the last chunk's end, from the bytes that were taken
 bytes_taken-some : (start at len : ℕ) (cs : List Range) → start ≤ at → IsAdjacent at cs → bytes_taken start cs ≡ Some len → start + len ≡ end_of_last at cs
 unfolding IsAdjacent
-bytes_taken-some start at len [] order h e = absurd (cc)
-bytes_taken-some start at len (c ∷ cs) order (first, rest) e =
-    let from : end_of c ≤ end_of_last (end_of c) cs = end_of_last-le (end_of c) cs rest in
-    let taken : end_of_last (end_of c) cs - start ≡ len = cc in
-    omega arith
+bytes_taken-some start at len l order h e = grind (arith, end_of_last-le)
 
 -- what an insert takes is a row, from the first multiple of 32 on
 pub IsRow-inserted : (fllen : ℕ) (s t : State) (r : Range) (len : ℕ) → Inserts fllen s r (Some len) t → IsRow t (between (round32 r.start) (r.start + len))
@@ -157,9 +142,7 @@ module _ {fllen sllen : ℕ} {memory : Range} {s : State} (w : IsWellFormed flle
   last_chunk = let (c, i, from, low, high, to) = row (end_of p - 1) (omega arith) (omega arith) in (c, i, from, omega arith)
 
   grown_if-longer : (n : ℕ) → 0 < n → (o : Option Range) → find (ends_at r.start) s.chunks ≡ o → IsRow (grown_if o n s) (range_at p.start (p.len + n))
-  grown_if-longer n more None found a low high =
-      let (c, i, from, to) = last_chunk in
-      absurd (true≢false (sym (eq-eqb (end_of c) r.start to) ∙ find-none (ends_at r.start) c s.chunks found i))
+  grown_if-longer n more None found a low high = grind (arith, nat_tests, last_chunk, find-none)
   grown_if-longer n more (Some d) found a low high =
       let is = find-some (ends_at r.start) d s.chunks found in
       let d_ends : end_of d ≡ r.start = eqb-true (end_of d) r.start is.1 in

@@ -1,6 +1,7 @@
 -- What a step leaves of the chunks.
-use Rattle.std.proofs.Common.{◌≡◌, ℕ, zero, suc, ◌+◌, ◌*◌, ◌/◌, ◌%◌, ◌≤◌, ◌⊎◌, Bool, cond, List, [], ◌∷◌, Option, Some, None, find, arith}
+use Rattle.std.proofs.Common.{◌≡◌, ℕ, zero, suc, ◌+◌, ◌*◌, ◌/◌, ◌%◌, ◌≤◌, ◌⊎◌, Bool, List, [], ◌∷◌, Option, Some, None, find, arith}
 use Rattle.std.proofs.Common.{refl, sym, ◌∙◌, ap, subst, inl, inr}
+use Rattle.std.proofs.lemmas.Bool.Decides.{nat_tests}
 use Rattle.std.proofs.lemmas.Bool.{eqb-true}
 use Rattle.rlsf_base.specs.declared.memory.range.Range.{Range}
 use Rattle.rlsf_base.specs.Range.{end_of, range_at}
@@ -14,21 +15,13 @@ use Rattle.rlsf_model.specs.Reallocate.{Plan, plan, ReallocatesBy, Reallocates}
 use Rattle.rlsf_model.specs.Release.{Deallocates}
 use Rattle.rlsf_model.specs.Run.{insert, append, allocate, deallocate, reallocate, fill, remove, trim, Fills}
 use Rattle.rlsf_model.specs.State.{State, Used}
-use Rattle.rlsf_model.proofs.Coverage.{by_test, find-some}
+use Rattle.rlsf_model.proofs.Coverage.{find-some}
 use Rattle.rlsf_model.proofs.Cuts.{IsIn-cut_within}
 
 -- without the element that was found, each other one is left
 pub IsIn-without_found : {A : Type 0} (p : A → Bool) (x y : A) (xs : List A) → find p xs ≡ Some x → IsIn y xs → (y ≡ x) ⊎ IsIn y (without p xs)
 IsIn-without_found p x y [] found h = absurd h
-IsIn-without_found p x y (z ∷ xs) found h = by_test (p z)
-    (λ e. let same : Some z ≡ Some x = sym (ap (λ b. cond b (Some z) (find p xs)) e) ∙ found in
-    let is : z ≡ x = cc in
-    elim h [ inl at ↦ inl (at ∙ is) | inr i ↦ inr (subst (λ b. IsIn y (cond b xs (z ∷ without p xs))) (sym e) i) ])
-    (λ e. let more : IsIn y (z ∷ without p xs) → IsIn y (without p (z ∷ xs)) = subst (λ b. IsIn y (cond b xs (z ∷ without p xs))) (sym e) in
-    elim h [
-      | inl at ↦ inr (more (inl at))
-      | inr i ↦ elim (IsIn-without_found p x y xs (sym (ap (λ b. cond b (Some z) (find p xs)) e) ∙ found) i) [ inl at ↦ inl at | inr j ↦ inr (more (inr j)) ]
-    ])
+IsIn-without_found p x y (z ∷ xs) found h = grind (arith, nat_tests, IsIn-without_found p x y xs)
 
 -- more chunks leave the old ones
 pub IsIn-with_chunks_old : (c : Range) (cs : List Range) (r : State) → IsIn c r.chunks → IsIn c (with_chunks cs r).chunks
@@ -74,17 +67,15 @@ pub chunks_stay : ChunksStay
 chunks_stay fllen sllen s t (insert r reply) c lasts step i = stays c s t i _ (IsIn-with_chunks_old c (cut (max_pool_size fllen) (aligned_part r)) s i) step.after
 chunks_stay fllen sllen s t (append r reply) c lasts step i = subst (IsChunkKept c) (sym step.after) (appended_kept c s t i (max_pool_size fllen) r)
 chunks_stay fllen sllen s t (allocate size align reply) c lasts step i = allocate_kept c s t i sllen size align reply step
-chunks_stay fllen sllen s t (deallocate addr) c lasts step i = stays c s t i _ i step.after
 chunks_stay fllen sllen s t (reallocate addr size reply) c lasts step i = reallocate_kept c s t i sllen size step.block (plan s step.block size) reply step.step
-chunks_stay fllen sllen s t (fill addr bytes) c lasts step i = stays c s t i _ i step.after
 chunks_stay fllen sllen s t (remove r) c lasts step i = absurd (lasts tt)
 chunks_stay fllen sllen s t (trim count) c lasts step i = absurd step
+chunks_stay fllen sllen s t e c lasts step i = stays c s t i _ i step.after
 
 -- ---- steps that change no chunk
 
 pub chunks-allocated : (sllen : ℕ) (s t : State) (size align : ℕ) (reply : Option ℕ) → Allocates sllen s size align reply t → t.chunks ≡ s.chunks
-chunks-allocated sllen s t size align None step = ap (λ x. x.chunks) step.1
-chunks-allocated sllen s t size align (Some addr) step = ap (λ x. x.chunks) step.after
+chunks-allocated sllen s t size align o step = grind arith
 
 pub chunks-deallocated : (s t : State) (addr : ℕ) → Deallocates s addr t → t.chunks ≡ s.chunks
 chunks-deallocated s t addr step = ap (λ x. x.chunks) step.after
@@ -93,10 +84,7 @@ pub chunks-reallocated : (sllen : ℕ) (s t : State) (addr size : ℕ) (reply : 
 chunks-reallocated sllen s t addr size reply step = go (plan s step.block size) reply step.step
   where
     go : (o : Option Plan) (q : Option ℕ) → ReallocatesBy sllen s step.block size o q t → t.chunks ≡ s.chunks
-    go (Some p) None by = absurd by
-    go (Some p) (Some to) by = ap (λ x. x.chunks) by.after
-    go None None by = ap (λ x. x.chunks) by.1
-    go None (Some to) by = ap (λ x. x.chunks) by.released.after ∙ ap (λ x. x.chunks) by.allocated.after
+    go o o' by = grind arith
 
 pub chunks-filled : (s t : State) (addr : ℕ) (bytes : List ℕ) → Fills s addr bytes t → t.chunks ≡ s.chunks
 chunks-filled s t addr bytes step = ap (λ x. x.chunks) step.after
@@ -105,10 +93,7 @@ chunks-filled s t addr bytes step = ap (λ x. x.chunks) step.after
 
 pub IsIn-with_chunks : (c : Range) (cs : List Range) (r : State) → IsIn c (with_chunks cs r).chunks → IsIn c cs ⊎ IsIn c r.chunks
 IsIn-with_chunks c [] r i = inr i
-IsIn-with_chunks c (d ∷ cs) r i = elim (IsIn-with_chunks c cs (with_chunk d r) i) [
-  | inl new ↦ inl (inr new)
-  | inr h ↦ elim h [ inl same ↦ inl (inl same) | inr old ↦ inr old ]
-]
+IsIn-with_chunks c (d ∷ cs) r i = grind (arith, IsIn-with_chunks c cs (with_chunk d r) i)
 
 pub inserted_chunks_lie_in_range : InsertedChunksLieInRange
 inserted_chunks_lie_in_range fllen s t r reply c step i =
@@ -125,16 +110,13 @@ used-with_chunks [] s = refl
 used-with_chunks (c ∷ cs) s = used-with_chunks cs (with_chunk c s)
 
 used-grown_if : (o : Option Range) (n : ℕ) (s : State) → (grown_if o n s).used ≡ s.used
-used-grown_if None n s = refl
-used-grown_if (Some c) n s = refl
+used-grown_if o n s = grind arith
 
 used-extended : (at n : ℕ) (s : State) → (extended at n s).used ≡ s.used
-used-extended at zero s = refl
-used-extended at (suc n) s = used-grown_if (find (ends_at at) s.chunks) (suc n) s
+used-extended at n' s = grind (arith, used-grown_if)
 
 used-appended_by : (o : Option ℕ) (r : Range) (s : State) → (appended o r s).used ≡ s.used
-used-appended_by None r s = used-extended r.start (r.len / 32 * 32) s
-used-appended_by (Some most) r s = used-with_chunks (cut (Some most) (aligned_part r)) s
+used-appended_by o r s = grind (arith, used-extended, used-with_chunks)
 
 pub used-inserted : (fllen : ℕ) (s t : State) (r : Range) (reply : Option ℕ) → Inserts fllen s r reply t → t.used ≡ s.used
 used-inserted fllen s t r reply step = ap (λ x. x.used) step.after ∙ used-with_chunks (cut (max_pool_size fllen) (aligned_part r)) s

@@ -1,6 +1,7 @@
 -- How many ranges of a list have an address.
-use Rattle.std.proofs.Common.{◌≡◌, ℕ, ◌+◌, ◌<◌, ◌≤◌, ◌⊎◌, Bool, true, false, cond, ◌&&◌, ltb, filter, find, map, true≢false, List, [], ◌∷◌}
-use Rattle.std.proofs.Common.{◌++◌, Some, None, arith, refl, sym, ◌∙◌, ap, subst, inl, inr}
+use Rattle.std.proofs.Common.{◌≡◌, ℕ, ◌+◌, ◌<◌, ◌≤◌, ◌⊎◌, Bool, true, false, cond, ◌&&◌, ltb, filter, find, map, List, [], ◌∷◌}
+use Rattle.std.proofs.Common.{◌++◌, Some, None, arith, refl, sym, ◌∙◌, ap, inl, inr}
+use Rattle.std.proofs.lemmas.Bool.Decides.{nat_tests}
 use Rattle.std.proofs.lemmas.Bool.{cases_lt, le-leb, lt-leb, lt-ltb, le-ltb}
 use Rattle.rlsf_base.specs.declared.memory.range.Range.{Range}
 use Rattle.rlsf_base.specs.Range.{end_of}
@@ -23,56 +24,27 @@ covers-before r a low = ap (λ b. cond (b && ltb a (end_of r)) 1 0) (lt-leb r.st
 
 pub covers-behind : (r : Range) (a : ℕ) → end_of r ≤ a → covers r a ≡ 0
 unfolding covers
-covers-behind r a high = elim (cases_lt a r.start) [
-  | inl low ↦ covers-before r a low
-  | inr from ↦ ap (λ b. cond (b && ltb a (end_of r)) 1 0) (le-leb r.start a from) ∙ ap (λ b. cond b 1 0) (le-ltb a (end_of r) high)
-]
+covers-behind r a high = grind (arith, cases_lt, covers-before, le-leb, le-ltb)
 
 pub where_is : (r : Range) (a : ℕ) → Where r a
-where_is r a = elim (cases_lt a r.start) [
-  | inl low ↦ before (covers-before r a low) low
-  | inr from ↦ elim (cases_lt a (end_of r)) [
-    | inl high ↦ inside (covers-inside r a from high) from high
-    | inr past ↦ behind (covers-behind r a past) past
-  ]
-]
+where_is r a = grind (arith, cases_lt, covers-before, covers-inside, covers-behind)
 
 -- a range that has an address
 pub covers-some : (r : Range) (a : ℕ) → 1 ≤ covers r a → (r.start ≤ a) × (a < end_of r)
-covers-some r a some = elim (where_is r a) [
-  | inside one low high ↦ (low, high)
-  | before none low ↦ absurd (omega arith)
-  | behind none high ↦ absurd (omega arith)
-]
+covers-some r a some = grind (arith, where_is)
 
 pub covers-le : (r : Range) (a : ℕ) → covers r a ≤ 1
-covers-le r a = elim (where_is r a) [
-  | inside one low high ↦ omega arith
-  | before none low ↦ omega arith
-  | behind none high ↦ omega arith
-]
+covers-le r a = grind (arith, where_is)
 
 -- a range is cut in two at any address in it
 pub covers-split : (low mid high a : ℕ) → low ≤ mid → mid ≤ high → (r s t : Range) → r.start ≡ low → end_of r ≡ high → s.start ≡ low → end_of s ≡ mid
     → t.start ≡ mid → end_of t ≡ high
     → covers r a ≡ covers s a + covers t a
-covers-split low mid high a first second r s t r0 r1 s0 s1 t0 t1 = elim (where_is r a) [
-  | inside one l h ↦ elim (where_is s a) [
-    | inside s_one sl sh ↦ elim (where_is t a) [ inside t_one tl th ↦ absurd (omega arith) | before none tl ↦ omega arith | behind none th ↦ omega arith ]
-    | before s_none sl ↦ absurd (omega arith)
-    | behind s_none sh ↦ elim (where_is t a) [ inside t_one tl th ↦ omega arith | before none tl ↦ absurd (omega arith) | behind none th ↦ absurd (omega arith) ]
-  ]
-  | before none l ↦ let left = covers-before s a (omega arith) in let right = covers-before t a (omega arith) in omega arith
-  | behind none h ↦ let left = covers-behind s a (omega arith) in let right = covers-behind t a (omega arith) in omega arith
-]
+covers-split low mid high a first second r s t r0 r1 s0 s1 t0 t1 = grind (arith, where_is, covers-before, covers-behind)
 
 -- a range of no bytes has no address
 pub covers-empty : (r : Range) (a : ℕ) → r.len ≡ 0 → covers r a ≡ 0
-covers-empty r a empty = elim (where_is r a) [
-  | inside one low high ↦ absurd (omega arith)
-  | before none low ↦ none
-  | behind none high ↦ none
-]
+covers-empty r a empty = grind (arith, where_is)
 
 -- what is true of a Bool either way
 pub by_test : {X : Type 0} (t : Bool) → (t ≡ true → X) → (t ≡ false → X) → X
@@ -115,56 +87,35 @@ map-same f g (x ∷ xs) same = λ k. same x (inl refl) k ∷ map-same f g xs (λ
 
 pub IsIn-without : {A : Type 0} (p : A → Bool) (x : A) (xs : List A) → IsIn x (without p xs) → IsIn x xs
 IsIn-without p x [] h = h
-IsIn-without p x (y ∷ xs) h = by_test (p y)
-    (λ e. inr (subst (λ b. IsIn x (cond b xs (y ∷ without p xs))) e h))
-    (λ e. let left : (x ≡ y) ⊎ IsIn x (without p xs) = subst (λ b. IsIn x (cond b xs (y ∷ without p xs))) e h in
-    elim left [ inl same ↦ inl same | inr rest ↦ inr (IsIn-without p x xs rest) ])
+IsIn-without p x (y ∷ xs) h = grind (arith, nat_tests, IsIn-without p x xs)
 
 -- an element that the test fails is left
 pub IsIn-without_other : {A : Type 0} (p : A → Bool) (x : A) (xs : List A) → p x ≡ false → IsIn x xs → IsIn x (without p xs)
 IsIn-without_other p x [] failed h = h
-IsIn-without_other p x (y ∷ xs) failed h = by_test (p y)
-    (λ e. subst (λ b. IsIn x (cond b xs (y ∷ without p xs))) (sym e)
-    (elim h [ inl same ↦ absurd (true≢false (sym e ∙ ap p (sym same) ∙ failed)) | inr rest ↦ rest ]))
-    (λ e. subst (λ b. IsIn x (cond b xs (y ∷ without p xs))) (sym e)
-    (elim h [ inl same ↦ inl same | inr rest ↦ inr (IsIn-without_other p x xs failed rest) ]))
+IsIn-without_other p x (y ∷ xs) failed h = grind (arith, nat_tests, IsIn-without_other p x xs failed)
 
 -- what was found is an element that passes
 pub find-some : {A : Type 0} (p : A → Bool) (x : A) (xs : List A) → find p xs ≡ Some x → IsIn x xs × (p x ≡ true)
 find-some p x [] h = absurd (cc)
-find-some p x (y ∷ xs) h = by_test (p y)
-    (λ e. let same : Some y ≡ Some x = sym (ap (λ b. cond b (Some y) (find p xs)) e) ∙ h in let is : y ≡ x = cc in (inl (sym is), subst (λ z. p z ≡ true) is e))
-    (λ e. let rest = find-some p x xs (sym (ap (λ b. cond b (Some y) (find p xs)) e) ∙ h) in (inr rest.0, rest.1))
+find-some p x (y ∷ xs) h = grind (arith, nat_tests, find-some p x xs)
 
 -- where nothing was found, no element passes
 pub find-none : {A : Type 0} (p : A → Bool) (x : A) (xs : List A) → find p xs ≡ None → IsIn x xs → p x ≡ false
 find-none p x [] h i = absurd i
-find-none p x (y ∷ xs) h i = by_test (p y)
-    (λ e. let bad : Some y ≡ None = sym (ap (λ b. cond b (Some y) (find p xs)) e) ∙ h in absurd (cc))
-    (λ e. elim i [ inl same ↦ ap p same ∙ e | inr j ↦ find-none p x xs (sym (ap (λ b. cond b (Some y) (find p xs)) e) ∙ h) j ])
+find-none p x (y ∷ xs) h i = grind (arith, nat_tests, find-none p x xs)
 
 pub without-none : {A : Type 0} (p : A → Bool) (xs : List A) → find p xs ≡ None → without p xs ≡ xs
 without-none p [] h = refl
-without-none p (y ∷ xs) h = by_test (p y)
-    (λ e. let bad : Some y ≡ None = sym (ap (λ b. cond b (Some y) (find p xs)) e) ∙ h in absurd (cc))
-    (λ e. ap (λ b. cond b xs (y ∷ without p xs)) e ∙ ap (λ l. y ∷ l) (without-none p xs (sym (ap (λ b. cond b (Some y) (find p xs)) e) ∙ h)))
+without-none p (y ∷ xs) h = grind (arith, nat_tests, without-none p xs)
 
 -- an element that is left by a filter passes its test
 pub IsIn-filter : {A : Type 0} (p : A → Bool) (x : A) (xs : List A) → IsIn x (filter p xs) → IsIn x xs × (p x ≡ true)
 IsIn-filter p x [] i = absurd i
-IsIn-filter p x (y ∷ ys) i = by_test (p y)
-    (λ e. elim (subst (λ b. IsIn x (cond b (y ∷ filter p ys) (filter p ys))) e i) [
-      | inl same ↦ (inl same, ap p same ∙ e)
-      | inr j ↦ let rest = IsIn-filter p x ys j in (inr rest.0, rest.1)
-    ])
-    (λ e. let rest = IsIn-filter p x ys (subst (λ b. IsIn x (cond b (y ∷ filter p ys) (filter p ys))) e i) in (inr rest.0, rest.1))
+IsIn-filter p x (y ∷ ys) i = grind (arith, nat_tests, IsIn-filter p x ys)
 
 pub IsIn-filter_from : {A : Type 0} (p : A → Bool) (x : A) (xs : List A) → IsIn x xs → p x ≡ true → IsIn x (filter p xs)
 IsIn-filter_from p x [] i passes = i
-IsIn-filter_from p x (y ∷ ys) i passes = by_test (p y)
-    (λ e. subst (λ b. IsIn x (cond b (y ∷ filter p ys) (filter p ys))) (sym e) (elim i [ inl same ↦ inl same | inr j ↦ inr (IsIn-filter_from p x ys j passes) ]))
-    (λ e. subst (λ b. IsIn x (cond b (y ∷ filter p ys) (filter p ys))) (sym e)
-    (elim i [ inl same ↦ absurd (true≢false (sym passes ∙ ap p same ∙ e)) | inr j ↦ IsIn-filter_from p x ys j passes ]))
+IsIn-filter_from p x (y ∷ ys) i passes = grind (arith, nat_tests, IsIn-filter_from p x ys)
 
 -- ---- coverage
 
@@ -175,12 +126,7 @@ module _ {A : Type 0} (range : A → Range) where
 
   pub coverage-without : (p : A → Bool) (x : A) (xs : List A) (a : ℕ) → find p xs ≡ Some x → coverage range xs a ≡ covers (range x) a + coverage range (without p xs) a
   coverage-without p x [] a h = absurd (cc)
-  coverage-without p x (y ∷ xs) a h = by_test (p y)
-      (λ e. let same : Some y ≡ Some x = sym (ap (λ b. cond b (Some y) (find p xs)) e) ∙ h in let is : y ≡ x = cc in
-      ap (λ z. covers (range z) a + coverage range xs a) is ∙ ap (λ b. covers (range x) a + coverage range (cond b xs (y ∷ without p xs)) a) (sym e))
-      (λ e. let rest = coverage-without p x xs a (sym (ap (λ b. cond b (Some y) (find p xs)) e) ∙ h) in
-      let cut : coverage range (without p (y ∷ xs)) a ≡ covers (range y) a + coverage range (without p xs) a = ap (λ b. coverage range (cond b xs (y ∷ without p xs)) a) e in
-      omega arith)
+  coverage-without p x (y ∷ xs) a h = grind (arith, nat_tests, coverage-without p x xs a)
 
   -- an element's range has no address that the list's ranges don't have
   pub coverage-IsIn : (x : A) (xs : List A) (a : ℕ) → IsIn x xs → covers (range x) a ≤ coverage range xs a
@@ -197,25 +143,12 @@ module _ {A : Type 0} (range : A → Range) where
   pub coverage-filter : (p : A → Bool) (xs : List A) (a : ℕ) → ((x : A) → IsIn x xs → p x ≡ false → covers (range x) a ≡ 0)
       → coverage range (filter p xs) a ≡ coverage range xs a
   coverage-filter p [] a none = refl
-  coverage-filter p (x ∷ xs) a none =
-      let rest = coverage-filter p xs a (λ y i. none y (inr i)) in
-      by_test (p x)
-      (λ e. let kept : coverage range (filter p (x ∷ xs)) a
-      ≡ covers (range x) a + coverage range (filter p xs) a = ap (λ b. coverage range (cond b (x ∷ filter p xs) (filter p xs)) a) e in omega arith)
-      (λ e. let gone : coverage range (filter p (x ∷ xs)) a ≡ coverage range (filter p xs) a = ap (λ b. coverage range (cond b (x ∷ filter p xs) (filter p xs)) a) e in
-      omega (arith, none x (inl refl) e))
+  coverage-filter p (x ∷ xs) a none = grind (arith, nat_tests, coverage-filter p xs a)
 
   -- an address that some range has
   pub coverage-some : (xs : List A) (a : ℕ) → 1 ≤ coverage range xs a → (x : A) × IsIn x xs × ((range x).start ≤ a) × (a < end_of (range x))
   coverage-some [] a h = absurd (omega arith)
-  coverage-some (x ∷ xs) a h = elim (where_is (range x) a) [
-    | inside one low high ↦ (x, inl refl, low, high)
-    | before none low ↦ more (coverage-some xs a (omega arith))
-    | behind none high ↦ more (coverage-some xs a (omega arith))
-  ]
-    where
-      more : (y : A) × IsIn y xs × ((range y).start ≤ a) × (a < end_of (range y)) → (y : A) × IsIn y (x ∷ xs) × ((range y).start ≤ a) × (a < end_of (range y))
-      more (y, h, low, high) = (y, inr h, low, high)
+  coverage-some (x ∷ xs) a h = grind (arith, coverage-some xs a, where_is)
 
   -- an address that at most one range has is in one element's range alone
   pub coverage-unique : (x y : A) (xs : List A) (a : ℕ) → coverage range xs a ≤ 1 → IsIn x xs → IsIn y xs → covers (range x) a ≡ 1 → covers (range y) a ≡ 1

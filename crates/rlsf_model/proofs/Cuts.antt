@@ -2,6 +2,7 @@
 use mathlib.Core.Path.{ap₂}
 use Rattle.std.proofs.Common.{◌≡◌, ℕ, zero, suc, ◌+◌, ◌-◌, ◌*◌, ◌/◌, ◌%◌, ◌^◌, ◌<◌, ◌≤◌, ◌⊎◌, cond, List, [], ◌∷◌, ◌++◌}
 use Rattle.std.proofs.Common.{Option, Some, None, arith, refl, sym, ap, subst, inl, inr, min, ◌∙◌}
+use Rattle.std.proofs.lemmas.Bool.Decides.{nat_tests}
 use Rattle.std.proofs.lemmas.Bool.{cases_lt, lt-ltb, le-ltb, le-leb, lt-leb}
 use Rattle.std.proofs.lemmas.Nat.{div_below, le-div, mod_below, div-add-mod', pow_pos, pow-add}
 use Rattle.std.proofs.Math.Nat.{div-mul-le_self}
@@ -25,9 +26,7 @@ pub record IsPiece (most : ℕ) (part c : Range) : Type 0 where
 
 IsIn-adjacent : (n at len : ℕ) → at % 32 ≡ 0 → len % 32 ≡ 0 → 64 ≤ len → (c : Range) → IsIn c (adjacent at len n) → IsPiece len (range_at at (n * len)) c
 IsIn-adjacent zero at len at32 len32 room c h = absurd h
-IsIn-adjacent (suc n) at len at32 len32 room c (inl same) =
-    subst (IsPiece len (range_at at (suc n * len))) (sym same)
-    (record { whole = record { start = at32; len = len32 }; from = omega arith; to = omega arith; room = room; short = omega arith })
+IsIn-adjacent (suc n) at len at32 len32 room c (inl same) = grind arith
 IsIn-adjacent (suc n) at len at32 len32 room c (inr h) =
     let rest = IsIn-adjacent n (at + len) len (omega arith) len32 room c h in
     record { whole = rest.whole; from = omega (arith, rest.from); to = omega (arith, rest.to); room = rest.room; short = rest.short }
@@ -43,25 +42,13 @@ coverage-adjacent (suc n) at len a =
     )
 
 IsIn-remainder : (at len : ℕ) (c : Range) → IsIn c (remainder at len) → (c ≡ range_at at len) × (64 ≤ len)
-IsIn-remainder at len c h = elim (cases_lt len 64) [
-  | inl short ↦ absurd (subst (λ b. IsIn c (cond b (range_at at len ∷ []) [])) (lt-leb 64 len short) h)
-  | inr room ↦
-      let one : (c ≡ range_at at len) ⊎ ⊥ = subst (λ b. IsIn c (cond b (range_at at len ∷ []) [])) (le-leb 64 len room) h in
-      elim one [ inl same ↦ (same, room) | inr bad ↦ absurd bad ]
-]
+IsIn-remainder at len c h = grind (arith, cases_lt, lt-leb, le-leb)
 
 coverage-remainder : (at len a : ℕ) → coverage itself (remainder at len) a ≤ covers (range_at at len) a
-coverage-remainder at len a = elim (cases_lt len 64) [
-  | inl short ↦ let none : coverage itself (remainder at len) a ≡ 0 = ap (λ b. coverage itself (cond b (range_at at len ∷ []) []) a) (lt-leb 64 len short) in omega arith
-  | inr room ↦ let one : coverage itself (remainder at len) a ≡ covers (range_at at len) a + 0 =
-      ap (λ b. coverage itself (cond b (range_at at len ∷ []) []) a) (le-leb 64 len room) in omega arith
-]
+coverage-remainder at len a = grind (arith, cases_lt, lt-leb, le-leb)
 
 pub max_pool-cases : (fllen : ℕ) → (max_pool_size fllen ≡ Some (2 ^ (5 + fllen))) ⊎ ((max_pool_size fllen ≡ None) × (64 ≤ 5 + fllen))
-max_pool-cases fllen = elim (cases_lt (5 + fllen) 64) [
-  | inl small ↦ inl (ap (λ b. cond b (Some (2 ^ (5 + fllen))) None) (lt-ltb (5 + fllen) 64 small))
-  | inr large ↦ inr (ap (λ b. cond b (Some (2 ^ (5 + fllen))) None) (le-ltb (5 + fllen) 64 large), large)
-]
+max_pool-cases fllen = grind (arith, cases_lt, lt-ltb, le-ltb)
 
 -- the greatest length of a chunk is a multiple of 32 and has room for a block
 pub most_whole : (fllen : ℕ) → 0 < fllen → (2 ^ (5 + fllen) % 32 ≡ 0) × (64 ≤ 2 ^ (5 + fllen))
@@ -109,8 +96,7 @@ module _ (part : Range) (part_whole : IsWhole part) where
       )
 
   pub coverage-cut : (o : Option ℕ) (a : ℕ) → coverage itself (cut o part) a ≤ covers part a
-  coverage-cut None a = coverage-remainder part.start part.len a
-  coverage-cut (Some most) a = coverage-cut_most most a
+  coverage-cut o a = grind (arith, coverage-remainder, coverage-cut_most)
 
   -- the chunks are pieces, and less their last 32 bytes they aren't too long
   pub IsIn-cut : (fllen : ℕ) → 0 < fllen → (0 < part.len → end_of part < 2 ^ 64) → (c : Range) → IsIn c (cut (max_pool_size fllen) part)
@@ -162,15 +148,7 @@ covers-body c a room = covers-split c.start (end_of c - 32) (end_of c) a (omega 
 
 -- so many whole times more
 div-more : (len most : ℕ) → 0 < most → most ≤ len → len / most ≡ suc ((len - most) / most)
-div-more len most some fits =
-    let q = (len - most) / most in
-    let parts : q * most + (len - most) % most ≡ len - most = div-add-mod' (len - most) most in
-    let rest : (len - most) % most < most = mod_below (len - most) most some in
-    let low : suc q * most ≤ len = omega arith in
-    let high : len < suc (suc q) * most = omega arith in
-    let from : suc q ≤ len / most = le-div (suc q) len most some low in
-    let to : len / most < suc (suc q) = div_below len most (suc (suc q)) some high in
-    omega arith
+div-more len most some fits = grind (arith, div-add-mod', mod_below, le-div, div_below)
 
 div-none : (len most : ℕ) → 0 < most → len < most → len / most ≡ 0
 div-none len most some short = let to : len / most < 1 = div_below len most 1 some (omega arith) in omega arith
@@ -188,15 +166,7 @@ module _ (at len most : ℕ) (wide : 64 ≤ most) where
       ∙ remainder-none (at + 0 * most) (len - 0 * most) (omega arith)
 
   cut_most-short : 64 ≤ len → len < most → cut (Some most) (range_at at len) ≡ range_at at len ∷ []
-  cut_most-short room short =
-      ap (λ q. adjacent at most q ++ remainder (at + q * most) (len - q * most)) (div-none len most (omega arith) short)
-      ∙ ap₂ (λ a n. remainder a n) same_at same_len ∙ remainder-one at len room
-    where
-      same_at : at + 0 * most ≡ at
-      same_at = omega arith
-
-      same_len : len - 0 * most ≡ len
-      same_len = omega arith
+  cut_most-short room short = grind (arith, div-none, remainder-one)
 
   cut_most-more : most ≤ len → cut (Some most) (range_at at len) ≡ range_at at most ∷ cut (Some most) (range_at (at + most) (len - most))
   cut_most-more fits =
@@ -230,28 +200,15 @@ chunks_are_cut_off_the_front fllen at len rows = elim (max_pool-cases fllen) [
 -- ---- where the last chunk ends
 
 end_of_last-adjacent : (n at len : ℕ) (more : List Range) → end_of_last at (adjacent at len n ++ more) ≡ end_of_last (at + n * len) more
-end_of_last-adjacent zero at len more = ap (λ a. end_of_last a more) same
-  where
-    same : at ≡ at + zero * len
-    same = omega arith
-end_of_last-adjacent (suc n) at len more = end_of_last-adjacent n (at + len) len more ∙ ap (λ a. end_of_last a more) same
-  where
-    same : at + len + n * len ≡ at + suc n * len
-    same = omega arith
+end_of_last-adjacent zero at len more = grind arith
+end_of_last-adjacent (suc n) at len more = grind (arith, end_of_last-adjacent n (at + len) len more)
 
 -- the range from an address to the last chunk's end
 abbrev to_last : ℕ → List Range → Range
 to_last at cs = range_at at (end_of_last at cs - at)
 
 coverage-remainder_last : (at len a : ℕ) → (at ≤ end_of_last at (remainder at len)) × (coverage itself (remainder at len) a ≤ covers (to_last at (remainder at len)) a)
-coverage-remainder_last at len a = elim (cases_lt len 64) [
-  | inl short ↦ subst (λ cs. (at ≤ end_of_last at cs) × (coverage itself cs a ≤ covers (to_last at cs) a)) (sym (remainder-none at len short)) (omega arith, omega arith)
-  | inr room ↦ subst (λ cs. (at ≤ end_of_last at cs) × (coverage itself cs a ≤ covers (to_last at cs) a)) (sym (remainder-one at len room))
-      (omega arith, subst (λ n. covers (range_at at len) a + 0 ≤ covers (range_at at n) a) whole (omega arith))
-]
-  where
-    whole : len ≡ at + len - at
-    whole = omega arith
+coverage-remainder_last at len a = grind (arith, nat_tests, remainder-none, remainder-one)
 
 -- no chunk that a part is cut into has an address behind the last chunk
 pub coverage-cut_last : (o : Option ℕ) (part : Range) (a : ℕ) → coverage itself (cut o part) a ≤ covers (to_last part.start (cut o part)) a
@@ -292,7 +249,4 @@ end_of_last-cut_most most part most32 whole =
     (omega (arith, rest.0), omega (arith, rest.1))
 
 pub end_of_last-cut : (fllen : ℕ) (part : Range) → 0 < fllen → part.len % 32 ≡ 0 → EndsNear (end_of_last part.start (cut (max_pool_size fllen) part)) (end_of part)
-end_of_last-cut fllen part rows whole = elim (max_pool-cases fllen) [
-  | inl some ↦ subst (λ o. EndsNear (end_of_last part.start (cut o part)) (end_of part)) (sym some) (end_of_last-cut_most (2 ^ (5 + fllen)) part (most_whole fllen rows).0 whole)
-  | inr (none, large) ↦ subst (λ o. EndsNear (end_of_last part.start (cut o part)) (end_of part)) (sym none) (end_of_last-remainder part.start part.len whole)
-]
+end_of_last-cut fllen part rows whole = grind (arith, max_pool-cases, end_of_last-cut_most, most_whole, end_of_last-remainder)

@@ -1,8 +1,9 @@
 -- The reference model, if its fresh bytes are all zero: its replies, computed, and that it is a run.
-use Rattle.std.proofs.Common.{◌≡◌, ℕ, ◌-◌, ◌^◌, ◌<◌, ◌≤◌, Bool, true, ◌&&◌, ◌||◌, leb, eqb, List, [], ◌∷◌, ◌++◌, length, take}
-use Rattle.std.proofs.Common.{replicate, min, Option, Some, None, find, true≢false, arith, refl, sym, ◌∙◌, inl, inr, length-append, length-take}
+use Rattle.std.proofs.Common.{◌≡◌, ℕ, ◌-◌, ◌^◌, ◌<◌, ◌≤◌, Bool, true, false, ◌&&◌, ◌||◌, leb, eqb, List, [], ◌∷◌, ◌++◌, length, take}
+use Rattle.std.proofs.Common.{replicate, Option, Some, None, find, true≢false, arith, refl, sym, inl, inr, length-append, length-take}
+use Rattle.std.proofs.lemmas.Bool.Decides.{nat_tests}
 use Rattle.std.specs.Option.{is_some}
-use Rattle.std.proofs.lemmas.Bool.{and_parts, or_cases, leb-true, eqb-true}
+use Rattle.std.proofs.lemmas.Bool.{and_parts, leb-true, eqb-true}
 use Rattle.std.proofs.lemmas.List.{length-replicate, take-append-le, take-take}
 use Rattle.rlsf_base.specs.declared.memory.range.Range.{Range}
 use Rattle.rlsf_base.specs.PowerOfTwo.{floor_log2}
@@ -13,20 +14,12 @@ use Rattle.rlsf_model.specs.Insert.{cut, aligned_part, bytes_taken, with_chunks,
 use Rattle.rlsf_model.specs.Join.{ends_at}
 use Rattle.rlsf_model.specs.Lists.{IsIn}
 use Rattle.rlsf_model.specs.Payload.{payload_of, block_for}
-use Rattle.rlsf_model.specs.Reallocate.{Plan, plan, replanned, Keeps, ReallocatesBy, Reallocates}
+use Rattle.rlsf_model.specs.Reallocate.{Plan, plan, replanned, Keeps, Replans, ReallocatesBy, Reallocates}
 use Rattle.rlsf_model.specs.Release.{released, Deallocates}
 use Rattle.rlsf_model.specs.Run.{Event, insert, append, allocate, deallocate, reallocate, Leads, MayCall, Runs}
 use Rattle.rlsf_model.specs.State.{State, Used, Holds}
-use Rattle.rlsf_model.specs.WellFormed.{covers, coverage, itself}
+use Rattle.rlsf_model.specs.WellFormed.{coverage, itself}
 use Rattle.rlsf_model.proofs.Coverage.{covers-before, covers-behind, find-some}
-
--- a call without its reply
-pub data Call : Type 0 where
-  insert_range : Range → Call
-  append_range : Range → Call
-  allocate_layout : ℕ → ℕ → Call
-  deallocate_at : ℕ → Call
-  reallocate_at : ℕ → ℕ → Call
 
 abbrev pub at : ℕ → Used → Bool
 at addr u = eqb u.payload addr
@@ -87,19 +80,21 @@ abbrev pub reallocate_after : ℕ → State → ℕ → Option Used → State
 reallocate_after sllen s size None = s
 reallocate_after sllen s size (Some u) = planned_after sllen s u size (plan s u size)
 
-abbrev pub answered : ℕ → ℕ → State → Call → Event
-answered fllen sllen s (insert_range r) = insert r (bytes_taken r.start (cut (max_pool_size fllen) (aligned_part r)))
-answered fllen sllen s (append_range r) = append r (appended_bytes (max_pool_size fllen) r)
-answered fllen sllen s (allocate_layout size align) = allocate size align (address align (choice sllen (request_size size align) s.free))
-answered fllen sllen s (deallocate_at addr) = deallocate addr
-answered fllen sllen s (reallocate_at addr size) = reallocate addr size (reallocate_reply sllen s size (find (at addr) s.used))
+-- the call with the reply that it has
+abbrev pub answered : ℕ → ℕ → State → Event → Event
+answered fllen sllen s (insert r reply) = insert r (bytes_taken r.start (cut (max_pool_size fllen) (aligned_part r)))
+answered fllen sllen s (append r reply) = append r (appended_bytes (max_pool_size fllen) r)
+answered fllen sllen s (allocate size align reply) = allocate size align (address align (choice sllen (request_size size align) s.free))
+answered fllen sllen s (reallocate addr size reply) = reallocate addr size (reallocate_reply sllen s size (find (at addr) s.used))
+answered fllen sllen s e = e
 
-abbrev pub after : ℕ → ℕ → State → Call → State
-after fllen sllen s (insert_range r) = with_chunks (cut (max_pool_size fllen) (aligned_part r)) s
-after fllen sllen s (append_range r) = appended (max_pool_size fllen) r s
-after fllen sllen s (allocate_layout size align) = allocate_after sllen s size align [] (choice sllen (request_size size align) s.free)
-after fllen sllen s (deallocate_at addr) = deallocate_after s (find (at addr) s.used)
-after fllen sllen s (reallocate_at addr size) = reallocate_after sllen s size (find (at addr) s.used)
+abbrev pub after : ℕ → ℕ → State → Event → State
+after fllen sllen s (insert r reply) = with_chunks (cut (max_pool_size fllen) (aligned_part r)) s
+after fllen sllen s (append r reply) = appended (max_pool_size fllen) r s
+after fllen sllen s (allocate size align reply) = allocate_after sllen s size align [] (choice sllen (request_size size align) s.free)
+after fllen sllen s (deallocate addr) = deallocate_after s (find (at addr) s.used)
+after fllen sllen s (reallocate addr size reply) = reallocate_after sllen s size (find (at addr) s.used)
+after fllen sllen s e = s
 
 -- ---- whether the caller may make the call
 
@@ -112,24 +107,25 @@ is_apart r (c ∷ cs) = (leb (end_of r) c.start || leb (end_of c) r.start) && is
 abbrev pub is_vacant : Range → List Range → Range → Bool
 is_vacant memory taken r = leb memory.start r.start && (leb (end_of r) (end_of memory) && is_apart r taken)
 
-abbrev pub may_call : Range → State → Call → Bool
-may_call memory s (insert_range r) = is_vacant memory s.chunks r
-may_call memory s (append_range r) = is_vacant memory s.chunks r && is_some (find (ends_at r.start) s.chunks)
-may_call memory s (allocate_layout size align) = eqb align (2 ^ floor_log2 align)
-may_call memory s (deallocate_at addr) = is_some (find (at addr) s.used)
-may_call memory s (reallocate_at addr size) = is_some (find (at addr) s.used)
+abbrev pub may_call : Range → State → Event → Bool
+may_call memory s (insert r reply) = is_vacant memory s.chunks r
+may_call memory s (append r reply) = is_vacant memory s.chunks r && is_some (find (ends_at r.start) s.chunks)
+may_call memory s (allocate size align reply) = eqb align (2 ^ floor_log2 align)
+may_call memory s (deallocate addr) = is_some (find (at addr) s.used)
+may_call memory s (reallocate addr size reply) = is_some (find (at addr) s.used)
+may_call memory s e = false
 
-abbrev pub all_events : ℕ → ℕ → State → List Call → List Event
+abbrev pub all_events : ℕ → ℕ → State → List Event → List Event
 all_events fllen sllen s [] = []
-all_events fllen sllen s (c ∷ cs) = answered fllen sllen s c ∷ all_events fllen sllen (after fllen sllen s c) cs
+all_events fllen sllen s (e ∷ es) = answered fllen sllen s e ∷ all_events fllen sllen (after fllen sllen s e) es
 
-abbrev pub all_after : ℕ → ℕ → State → List Call → State
+abbrev pub all_after : ℕ → ℕ → State → List Event → State
 all_after fllen sllen s [] = s
-all_after fllen sllen s (c ∷ cs) = all_after fllen sllen (after fllen sllen s c) cs
+all_after fllen sllen s (e ∷ es) = all_after fllen sllen (after fllen sllen s e) es
 
-abbrev pub may_call_all : ℕ → ℕ → Range → State → List Call → Bool
+abbrev pub may_call_all : ℕ → ℕ → Range → State → List Event → Bool
 may_call_all fllen sllen memory s [] = true
-may_call_all fllen sllen memory s (c ∷ cs) = may_call memory s c && may_call_all fllen sllen memory (after fllen sllen s c) cs
+may_call_all fllen sllen memory s (e ∷ es) = may_call memory s e && may_call_all fllen sllen memory (after fllen sllen s e) es
 
 -- ---- it is a run
 
@@ -137,43 +133,25 @@ pub length-refilled : (n : ℕ) (old : List ℕ) → length (refilled n old) ≡
 length-refilled n old = omega (arith, length-take n (old ++ replicate n 0), length-append old (replicate n 0), length-replicate {A = ℕ} n 0)
 
 pub Keeps-refilled : (n : ℕ) (old : List ℕ) → Keeps old (refilled n old)
-Keeps-refilled n old =
-    let m = min (length old) (length (refilled n old)) in
-    let len = length-refilled n old in
-    let small : m ≤ n = omega arith in
-    take-take m n (old ++ replicate n 0) small ∙ take-append-le m old (replicate n 0) (omega arith)
+Keeps-refilled n old = grind (arith, length-refilled, take-take, take-append-le)
 
 -- what is_apart tests
 may_apart : (r : Range) (cs : List Range) → is_apart r cs ≡ true → (a : ℕ) → r.start ≤ a → a < end_of r → coverage itself cs a ≡ 0
 may_apart r [] e a low high = refl
-may_apart r (c ∷ cs) e a low high =
-    let (here, rest) = and_parts (leb (end_of r) c.start || leb (end_of c) r.start) (is_apart r cs) e in
-    let none : covers c a ≡ 0 = elim (or_cases (leb (end_of r) c.start) (leb (end_of c) r.start) here) [
-      | inl left ↦ covers-before c a (omega (arith, leb-true (end_of r) c.start left))
-      | inr right ↦ covers-behind c a (omega (arith, leb-true (end_of c) r.start right))
-    ] in
-    omega (arith, may_apart r cs rest a low high)
+may_apart r (c ∷ cs) e a low high = grind (arith, nat_tests, may_apart r cs, and_parts, covers-before, covers-behind)
 
 -- what is_vacant tests
 pub IsVacant-from : (memory : Range) (taken : List Range) (r : Range) → is_vacant memory taken r ≡ true → IsVacant memory taken r
-IsVacant-from memory taken r e =
-    let (from, rest) = and_parts (leb memory.start r.start) (leb (end_of r) (end_of memory) && is_apart r taken) e in
-    let (to, apart) = and_parts (leb (end_of r) (end_of memory)) (is_apart r taken) rest in
-    record { lies_in = (leb-true memory.start r.start from, leb-true (end_of r) (end_of memory) to); apart = may_apart r taken apart }
+IsVacant-from memory taken r e = grind (arith, and_parts, leb-true, may_apart)
 
 pub allocate_step : (sllen : ℕ) (s : State) (size align : ℕ) (old : List ℕ) (o : Option Range) → choice sllen (request_size size align) s.free ≡ o
     → Allocates sllen s size align (address align o) (allocate_after sllen s size align old o)
 allocate_step sllen s size align old None e = (e, refl)
-allocate_step sllen s size align old (Some f) e =
-    let bytes = new_bytes f size align old in
-    record {
-      range = f;
-      bytes = bytes;
-      chosen = e;
-      answer = refl;
-      length = length-refilled (end_of (block_for f.start (payload_of f.start align) size) - payload_of f.start align) old;
-      after = refl;
-    }
+allocate_step sllen s size align old (Some f) e = grind (arith, length-refilled)
+
+-- a block goes as planned
+pub replans_step : (s : State) (u : Used) (p : Plan) → Replans s u p p.payload (replanned s u p (refilled (end_of p.block - p.payload) u.bytes))
+replans_step s u p = grind (arith, length-refilled, Keeps-refilled)
 
 module _ (fllen sllen : ℕ) (memory : Range) (s : State) where
   held : (addr : ℕ) (u : Used) → find (at addr) s.used ≡ Some u → Holds s addr u
@@ -200,14 +178,7 @@ module _ (fllen sllen : ℕ) (memory : Range) (s : State) where
 
   pub planned_step : (u : Used) → IsIn u s.used → (size : ℕ) (o : Option Plan)
       → ReallocatesBy sllen s u size o (planned_reply sllen s u size o) (planned_after sllen s u size o)
-  planned_step u h size (Some p) =
-      record {
-        bytes = refilled (end_of p.block - p.payload) u.bytes;
-        answer = refl;
-        length = length-refilled (end_of p.block - p.payload) u.bytes;
-        kept = Keeps-refilled (end_of p.block - p.payload) u.bytes;
-        after = refl;
-      }
+  planned_step u h size (Some p) = replans_step s u p
   planned_step u h size None = move_step u h size (choice sllen (request_size size u.align) s.free) refl
 
   reallocate_step : (addr size : ℕ) (o : Option Used) → find (at addr) s.used ≡ o → is_some o ≡ true
@@ -215,9 +186,9 @@ module _ (fllen sllen : ℕ) (memory : Range) (s : State) where
   reallocate_step addr size None e some = absurd (true≢false (sym some))
   reallocate_step addr size (Some u) e some = record { block = u; holds = held addr u e; step = planned_step u (held addr u e).0 size (plan s u size) }
 
-  step : (c : Call) → may_call memory s c ≡ true → MayCall memory s (answered fllen sllen s c) × Leads fllen sllen s (answered fllen sllen s c) (after fllen sllen s c)
-  step (insert_range r) may = (IsVacant-from memory s.chunks r may, record { answer = refl; after = refl })
-  step (append_range r) may =
+  step : (e : Event) → may_call memory s e ≡ true → MayCall memory s (answered fllen sllen s e) × Leads fllen sllen s (answered fllen sllen s e) (after fllen sllen s e)
+  step (insert r reply) may = (IsVacant-from memory s.chunks r may, record { answer = refl; after = refl })
+  step (append r reply) may =
       let (fresh, some) = and_parts (is_vacant memory s.chunks r) (is_some (find (ends_at r.start) s.chunks)) may in
       (next r (IsVacant-from memory s.chunks r fresh) (find (ends_at r.start) s.chunks) refl some, record { answer = refl; after = refl })
     where
@@ -225,14 +196,12 @@ module _ (fllen sllen : ℕ) (memory : Range) (s : State) where
       next r fresh None e some = absurd (true≢false (sym some))
       next r fresh (Some c) e some = let is = find-some (ends_at r.start) c s.chunks e in
           record { fresh = fresh; chunk = c; is_chunk = is.0; ends = eqb-true (end_of c) r.start is.1 }
-  step (allocate_layout size align) may = (eqb-true align (2 ^ floor_log2 align) may, allocate_step sllen s size align [] (choice sllen (request_size size align) s.free) refl)
-  step (deallocate_at addr) may = let d = deallocate_step addr (find (at addr) s.used) refl may in ((d.block, d.holds), d)
-  step (reallocate_at addr size) may = let d = reallocate_step addr size (find (at addr) s.used) refl may in ((d.block, d.holds), d)
+  step (allocate size align reply) may = (eqb-true align (2 ^ floor_log2 align) may, allocate_step sllen s size align [] (choice sllen (request_size size align) s.free) refl)
+  step (deallocate addr) may = let d = deallocate_step addr (find (at addr) s.used) refl may in ((d.block, d.holds), d)
+  step (reallocate addr size reply) may = let d = reallocate_step addr size (find (at addr) s.used) refl may in ((d.block, d.holds), d)
+  step e may = absurd (true≢false (sym may))
 
-pub Runs-all : (fllen sllen : ℕ) (memory : Range) (s : State) (cs : List Call) → may_call_all fllen sllen memory s cs ≡ true
-    → Runs fllen sllen memory s (all_events fllen sllen s cs) (all_after fllen sllen s cs)
+pub Runs-all : (fllen sllen : ℕ) (memory : Range) (s : State) (es : List Event) → may_call_all fllen sllen memory s es ≡ true
+    → Runs fllen sllen memory s (all_events fllen sllen s es) (all_after fllen sllen s es)
 Runs-all fllen sllen memory s [] may = refl
-Runs-all fllen sllen memory s (c ∷ cs) may =
-    let (here, rest) = and_parts (may_call memory s c) (may_call_all fllen sllen memory (after fllen sllen s c) cs) may in
-    let one = step fllen sllen memory s c here in
-    (after fllen sllen s c, one.0, one.1, Runs-all fllen sllen memory (after fllen sllen s c) cs rest)
+Runs-all fllen sllen memory s (c ∷ cs) may = grind (arith, Runs-all fllen sllen memory (after fllen sllen s c) cs, and_parts, step)

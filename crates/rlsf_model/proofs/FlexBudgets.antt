@@ -38,27 +38,19 @@ module _ (live most : ℕ) {fllen sllen : ℕ} {memory : Range} (t : Terms) (s :
   reallocates_in_room addr size (Some to) notes u modest (inr more) = absurd (never_full modest.0 size more.block.align (modest.1 more.block more.stuck.holds) more.asks.full)
 
   asks_nothing : (e : Event) (notes : List Note) (u : FlexState) → IsModest live most s.machine e → FlexLeads fllen sllen t s e notes u → AsksNothing fllen sllen s e notes u
-  asks_nothing (insert r reply) notes u modest step = absurd step
-  asks_nothing (append r reply) notes u modest step = absurd step
   asks_nothing (allocate size align reply) notes u modest step = allocates_in_room size align reply notes u modest.0 modest.1 step
   asks_nothing (deallocate addr) notes u modest step = step
   asks_nothing (reallocate addr size reply) notes u modest step = reallocates_in_room addr size reply notes u modest step
   asks_nothing (fill addr bytes) notes u modest step = step
-  asks_nothing (remove r) notes u modest step = absurd step
   asks_nothing (trim n) notes u modest step = absurd modest
+  asks_nothing e notes u modest step = absurd step
 
 -- ---- runs
 
 -- what its caller owes at a call within a budget is what it owes of the reference model alone
 may_modest : (live most : ℕ) (memory : Range) (s : State) (e : Event) → IsModest live most s e → FlexMayCall memory s e → MayCall memory s e
-may_modest live most memory s (insert r reply) modest may = may
-may_modest live most memory s (append r reply) modest may = may
-may_modest live most memory s (allocate size align reply) modest may = may
-may_modest live most memory s (deallocate addr) modest may = may
-may_modest live most memory s (reallocate addr size reply) modest may = may
-may_modest live most memory s (fill addr bytes) modest may = may
-may_modest live most memory s (remove r) modest may = may
 may_modest live most memory s (trim n) modest may = absurd modest
+may_modest live most memory s e modest may = may
 
 never_asked_from : (live size align n fllen sllen : ℕ) (memory : Range) (t : Terms) (s u : FlexState) (fronts : List Range) (cs : List FlexEvent)
     → IsWellFormed fllen sllen memory s.machine

@@ -5,14 +5,16 @@ use Rattle.std.specs.Bool.{then_some}
 use Rattle.std.specs.Option.{is_some, IfSome}
 use Rattle.std.proofs.lemmas.Bool.{and_parts, leb-true, eqb-true}
 use Rattle.rlsf_base.specs.declared.memory.range.Range.{Range}
-use Rattle.rlsf_base.specs.PowerOfTwo.{floor_log2, IsPowerOfTwo}
+use Rattle.rlsf_base.specs.PowerOfTwo.{floor_log2}
 use Rattle.rlsf_base.specs.Sizes.{max_pool_size, pool_size_to_contain_allocation, request_size}
 use Rattle.rlsf_model.specs.Allocate.{choice}
 use Rattle.rlsf_model.specs.FlexAllocate.{Asks, FlexAllocates}
+use Rattle.rlsf_model.specs.FlexRun.{FlexEvent}
 use Rattle.rlsf_model.specs.FlexState.{FlexState, KeptPool, with_machine}
 use Rattle.rlsf_model.specs.Growth.{Outcome, Questions, IsPossible, TakesIn, refused, growth_came, range_came, behind, is_more, keeps, longer, notes_of, questions}
 use Rattle.rlsf_model.specs.Insert.{aligned_part, appended, appended_bytes, bytes_taken, cut, with_chunks}
 use Rattle.rlsf_model.specs.Note.{Note, alloc, grow, dealloc}
+use Rattle.rlsf_model.specs.Run.{allocate}
 use Rattle.rlsf_model.specs.Terms.{IsGiven, IsGrown, Terms, with_len}
 use Rattle.rlsf_model.proofs.Examples.{address, allocate_after, allocate_step, is_vacant, IsVacant-from}
 
@@ -21,13 +23,6 @@ pub record Attempt : Type 0 where
   pub size : ℕ
   pub align : ℕ
   pub outcome : Outcome
-
--- an allocation with its reply, and what the source was asked for it with what it answered
-pub record Allocation : Type 0 where
-  pub size : ℕ
-  pub align : ℕ
-  pub reply : Option ℕ
-  pub notes : List Note
 
 -- an answer keeps to the terms while these ranges are outstanding, of which the newest alone is asked to grow
 abbrev pub IsAnswer : Terms → List Range → Note → Type 0
@@ -39,12 +34,6 @@ IsAnswer t owed (dealloc r) = Unit {0}
 abbrev pub AreAnswers : Terms → List Range → List Note → Type 0
 AreAnswers t owed [] = Unit {0}
 AreAnswers t owed (n ∷ ns) = IsAnswer t owed n × AreAnswers t owed ns
-
--- allocations one after another, and the answers of a source that keeps to its terms, lead from one state to another
-abbrev pub RunsOver : ℕ → ℕ → Terms → FlexState → List Allocation → FlexState → Type 0
-RunsOver fllen sllen t s [] u = u ≡ s
-RunsOver fllen sllen t s (a ∷ others) u =
-    (v : FlexState) × IsPowerOfTwo a.align × AreAnswers t s.pools a.notes × FlexAllocates fllen sllen t s a.size a.align a.reply a.notes v × RunsOver fllen sllen t v others u
 
 -- ---- what it replies, what is asked for it, and the state after it
 
@@ -107,23 +96,11 @@ abbrev pub after : ℕ → ℕ → Terms → FlexState → Attempt → FlexState
 after fllen sllen t s a = placed_in sllen (ready fllen sllen t s a) a.size a.align (room sllen (ready fllen sllen t s a) a.size a.align)
 
 -- an attempt with its reply and what is asked for it
-abbrev pub done : ℕ → ℕ → Terms → FlexState → Attempt → Allocation
+abbrev pub done : ℕ → ℕ → Terms → FlexState → Attempt → FlexEvent
 done fllen sllen t s a = record {
-  size = a.size;
-  align = a.align;
-  reply = address a.align (room sllen (ready fllen sllen t s a) a.size a.align);
+  event = allocate a.size a.align (address a.align (room sllen (ready fllen sllen t s a) a.size a.align));
   notes = notes_for (asked fllen sllen t s a.size a.align) a.outcome (room sllen s a.size a.align);
 }
-
--- attempts one after another, each with its reply and what is asked for it
-abbrev pub all_done : ℕ → ℕ → Terms → FlexState → List Attempt → List Allocation
-all_done fllen sllen t s [] = []
-all_done fllen sllen t s (a ∷ others) = done fllen sllen t s a ∷ all_done fllen sllen t (after fllen sllen t s a) others
-
--- the state after them
-abbrev pub all_after : ℕ → ℕ → Terms → FlexState → List Attempt → FlexState
-all_after fllen sllen t s [] = s
-all_after fllen sllen t s (a ∷ others) = all_after fllen sllen t (after fllen sllen t s a) others
 
 -- ---- whether the caller may ask so, and the source answer so
 
@@ -170,11 +147,6 @@ may_attempt fllen sllen t s a =
     && (are_answers t s.pools (done fllen sllen t s a).notes
     && may_come fllen (asked fllen sllen t s a.size a.align) s a.outcome (room sllen s a.size a.align) (room sllen (ready fllen sllen t s a) a.size a.align))
 
--- the same of attempts one after another
-abbrev pub may_attempt_all : ℕ → ℕ → Terms → FlexState → List Attempt → Bool
-may_attempt_all fllen sllen t s [] = true
-may_attempt_all fllen sllen t s (a ∷ others) = may_attempt fllen sllen t s a && may_attempt_all fllen sllen t (after fllen sllen t s a) others
-
 -- ---- it is a run
 
 -- what is something is not nothing
@@ -205,11 +177,9 @@ IsGrown-from t others r n len e =
 
 -- what is_answer tests
 IsAnswer-from : (t : Terms) (owed : List Range) (note : Note) → is_answer t owed note ≡ true → IsAnswer t owed note
-IsAnswer-from t owed (alloc n None) e = tt
 IsAnswer-from t owed (alloc n (Some r)) e = IsGiven-from t owed n r e
-IsAnswer-from t owed (grow r n None) e = tt
 IsAnswer-from t owed (grow r n (Some len)) e = IsGrown-from t (drop 1 owed) r n len e
-IsAnswer-from t owed (dealloc r) e = tt
+IsAnswer-from t owed x e = tt
 
 -- what are_answers tests
 pub AreAnswers-from : (t : Terms) (owed : List Range) (notes : List Note) → are_answers t owed notes ≡ true → AreAnswers t owed notes
@@ -283,22 +253,3 @@ module _ (fllen sllen : ℕ) (t : Terms) (s : FlexState) where
           after = refl;
         })
     FlexAllocates-so outcome None p none e may = allocates_or_asks none outcome p e may
-
--- attempts that may be are a run
-pub RunsOver-all : (fllen sllen : ℕ) (t : Terms) (s : FlexState) (attempts : List Attempt) → may_attempt_all fllen sllen t s attempts ≡ true
-    → RunsOver fllen sllen t s (all_done fllen sllen t s attempts) (all_after fllen sllen t s attempts)
-RunsOver-all fllen sllen t s [] may = refl
-RunsOver-all fllen sllen t s (a ∷ others) may =
-    let first = room sllen s a.size a.align in
-    let second = room sllen (ready fllen sllen t s a) a.size a.align in
-    let come = may_come fllen (asked fllen sllen t s a.size a.align) s a.outcome first second in
-    let answers = are_answers t s.pools (done fllen sllen t s a).notes in
-    let (here, rest) = and_parts (may_attempt fllen sllen t s a) (may_attempt_all fllen sllen t (after fllen sllen t s a) others) may in
-    let (power, more) = and_parts (is_power_of_two a.align) (answers && come) here in
-    let (kept, came) = and_parts answers come more in (
-      after fllen sllen t s a,
-      eqb-true a.align (2 ^ floor_log2 a.align) power,
-      AreAnswers-from t s.pools (done fllen sllen t s a).notes kept,
-      FlexAllocates-so fllen sllen t s a.size a.align a.outcome first second refl refl came,
-      RunsOver-all fllen sllen t (after fllen sllen t s a) others rest,
-    )

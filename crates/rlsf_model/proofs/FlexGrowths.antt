@@ -137,15 +137,7 @@ module _ {fllen sllen : ℕ} {memory : Range} {t : Terms} {s : FlexState} (w : I
 
     -- what is behind the kept pool may be appended
     pub behind_next : IsNext memory s.machine (behind k len)
-    behind_next =
-        let (room, wide, long) = is_longer in
-        let (last, is_chunk, ends) = kept.last in
-        record {
-          fresh = record { lies_in = (omega (arith, g.lies_in, w.space), omega (arith, g.lies_in, w.space)); apart = behind_clear };
-          chunk = last;
-          is_chunk = is_chunk;
-          ends = ends;
-        }
+    behind_next = grind (arith, is_longer, behind_clear)
 
     -- the longer range houses the chunks that there are then
     housed_after : (u : State) (n : ℕ) → IsTaken s.machine (behind k len) n u → AreHoused (with_len k.range len ∷ kept.rest) u.chunks

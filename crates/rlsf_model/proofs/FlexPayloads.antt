@@ -1,5 +1,5 @@
 -- What steps over a source leave of payloads.
-use Rattle.std.proofs.Common.{◌≡◌, ℕ, [], ◌∷◌, length, Some, None, arith, refl, sym, ◌∙◌, ap, subst, inl, inr}
+use Rattle.std.proofs.Common.{◌≡◌, ℕ, [], ◌∷◌, Some, None, arith, refl, sym, ◌∙◌, ap, subst, inl, inr}
 use Rattle.std.proofs.lemmas.Option.{same_Some}
 use Rattle.rlsf_base.specs.declared.memory.range.Range.{Range}
 use Rattle.rlsf_model.specs.Callers.{Payload, ServesLayout, payload_at, payload_in}
@@ -8,16 +8,14 @@ use Rattle.rlsf_model.specs.Laws.{FlexStepsChangeMap, FlexRunsChangeMap, FlexPay
 use Rattle.rlsf_model.specs.Laws.{FlexOtherPayloadsStay, FlexOthersStayInRuns, FlexUsedWasUsed, FlexUsedWasUsedInRuns, HasSize}
 use Rattle.rlsf_model.specs.Lists.{IsIn}
 use Rattle.rlsf_model.specs.Reallocate.{Keeps}
-use Rattle.rlsf_model.specs.Run.{insert, append, allocate, deallocate, reallocate, fill, remove, trim}
-use Rattle.rlsf_model.specs.State.{State, usable}
+use Rattle.rlsf_model.specs.Run.{allocate, reallocate}
+use Rattle.rlsf_model.specs.State.{State}
 use Rattle.rlsf_model.specs.WellFormed.{IsWellFormed}
 use Rattle.rlsf_model.proofs.Callers.{payload_at-has, payload_at-held}
-use Rattle.rlsf_model.proofs.FlexCallers.{flex_callers_see_map}
+use Rattle.rlsf_model.proofs.FlexCallers.{flex_callers_see_map, flex_step_goes}
 use Rattle.rlsf_model.proofs.FlexSteps.{flex_steps_keep_well_formed, flex_runs_keep_well_formed}
-use Rattle.rlsf_model.proofs.Growths.{Holds-same, used-taken}
-use Rattle.rlsf_model.proofs.Trims.{used-trimmed}
-use Rattle.rlsf_model.proofs.Live.{live_addresses_are_aligned, live_address_has_one_block, payloads_are_disjoint, payload_lies_in_one_chunk, other_payloads_stay, reallocate_from}
-use Rattle.rlsf_model.proofs.Live.{reallocate_stays, used_was_used}
+use Rattle.rlsf_model.proofs.Live.{live_addresses_are_aligned, live_address_has_one_block, payloads_are_disjoint, payload_lies_in_one_chunk}
+use Rattle.rlsf_model.proofs.UsedBlocks.{stays, was}
 
 pub flex_steps_change_map : FlexStepsChangeMap
 flex_steps_change_map fl_bits sl_bits fllen sllen memory t s u e notes valid w step =
@@ -47,10 +45,7 @@ flex_payloads_are_apart fl_bits sl_bits fllen sllen memory t s u cs valid w run 
 -- the used block of a payload that serves a layout
 HasSize-serves : {fllen sllen : ℕ} {memory : Range} {m : State} → IsWellFormed fllen sllen memory m → (size align addr : ℕ) (p : Payload) → payload_at m addr ≡ Some p
     → ServesLayout size align p → HasSize m size addr
-HasSize-serves {m = m} w size align addr p told serves =
-    let (v, holds, is) = payload_at-has m addr p told in
-    let long : length p.bytes ≡ (usable v).len = ap (λ (q : Payload). length q.bytes) (sym is) ∙ (w.used v holds.0).bytes in
-    (v, holds, omega (arith, serves.enough, long), omega (arith, serves.few, long))
+HasSize-serves {m = m} w size align addr p told serves = grind (arith, payload_at-has)
 
 pub flex_allocation_has_size : FlexAllocationHasSize
 flex_allocation_has_size fl_bits sl_bits fllen sllen memory t s u size align None notes valid w step = tt
@@ -80,57 +75,10 @@ flex_reallocation_keeps_bytes fl_bits sl_bits fllen sllen memory t s u addr size
 -- ---- payloads that a step doesn't name
 
 pub flex_other_payloads_stay : FlexOtherPayloadsStay
-flex_other_payloads_stay fllen sllen t s u (insert r reply) notes x step i apart = absurd step
-flex_other_payloads_stay fllen sllen t s u (append r reply) notes x step i apart = absurd step
-flex_other_payloads_stay fllen sllen t s u (remove r) notes x step i apart = absurd step
-flex_other_payloads_stay fllen sllen t s u (trim count) notes x step i apart = subst (IsIn x) (sym (used-trimmed t s u count notes step)) i
-flex_other_payloads_stay fllen sllen t s u (allocate size align None) notes x step i apart = subst (λ (y : FlexState). IsIn x y.machine.used) (sym step.extends.after) i
-flex_other_payloads_stay fllen sllen t s u (allocate size align (Some addr)) notes x (inl room) i apart =
-    subst (λ (y : FlexState). IsIn x y.machine.used) (sym room.after)
-    (other_payloads_stay fllen sllen s.machine room.machine (allocate size align (Some addr)) x room.allocates i apart)
-flex_other_payloads_stay fllen sllen t s u (allocate size align (Some addr)) notes x (inr more) i apart =
-    let m = more.meanwhile in
-    let j = subst (IsIn x) (sym (used-taken fllen t s m more.outcome more.asks.extends.after)) i in
-    subst (λ (y : FlexState). IsIn x y.machine.used) (sym more.after)
-    (other_payloads_stay fllen sllen m.machine more.machine (allocate size align (Some addr)) x more.allocates j apart)
-flex_other_payloads_stay fllen sllen t s u (deallocate addr) notes x step i apart =
-    subst (λ (y : FlexState). IsIn x y.machine.used) (sym step.after) (other_payloads_stay fllen sllen s.machine step.machine (deallocate addr) x step.leads i apart)
-flex_other_payloads_stay fllen sllen t s u (reallocate addr size None) notes x step i apart = subst (λ (y : FlexState). IsIn x y.machine.used) (sym step.asks.extends.after) i
-flex_other_payloads_stay fllen sllen t s u (reallocate addr size (Some to)) notes x (inl room) i apart =
-    subst (λ (y : FlexState). IsIn x y.machine.used) (sym room.after)
-    (other_payloads_stay fllen sllen s.machine room.machine (reallocate addr size (Some to)) x room.reallocates i apart)
-flex_other_payloads_stay fllen sllen t s u (reallocate addr size (Some to)) notes x (inr more) i apart =
-    let m = more.meanwhile in
-    let same = used-taken fllen t s m more.outcome more.asks.extends.after in
-    let j = subst (IsIn x) (sym same) i in
-    let held = Holds-same s.machine m.machine addr more.block same more.stuck.holds in
-    subst (λ (y : FlexState). IsIn x y.machine.used) (sym more.after) (reallocate_stays x m.machine more.machine j sllen addr size more.block held apart None (Some to) more.moves)
-flex_other_payloads_stay fllen sllen t s u (fill addr bytes) notes x step i apart =
-    subst (λ (y : FlexState). IsIn x y.machine.used) (sym step.after) (other_payloads_stay fllen sllen s.machine step.machine (fill addr bytes) x step.leads i apart)
+flex_other_payloads_stay fllen sllen t s u e notes x step i apart = stays x apart (flex_step_goes fllen sllen t s u e notes step) i
 
 pub flex_used_was_used : FlexUsedWasUsed
-flex_used_was_used fllen sllen t s u (insert r reply) notes x step i other new = absurd step
-flex_used_was_used fllen sllen t s u (append r reply) notes x step i other new = absurd step
-flex_used_was_used fllen sllen t s u (remove r) notes x step i other new = absurd step
-flex_used_was_used fllen sllen t s u (trim count) notes x step i other new = subst (IsIn x) (used-trimmed t s u count notes step) i
-flex_used_was_used fllen sllen t s u (allocate size align None) notes x step i other new = subst (λ (y : FlexState). IsIn x y.machine.used) step.extends.after i
-flex_used_was_used fllen sllen t s u (allocate size align (Some addr)) notes x (inl room) i other new =
-    used_was_used fllen sllen s.machine room.machine (allocate size align (Some addr)) x room.allocates (subst (λ (y : FlexState). IsIn x y.machine.used) room.after i) other new
-flex_used_was_used fllen sllen t s u (allocate size align (Some addr)) notes x (inr more) i other new =
-    let m = more.meanwhile in
-    subst (IsIn x) (used-taken fllen t s m more.outcome more.asks.extends.after)
-    (used_was_used fllen sllen m.machine more.machine (allocate size align (Some addr)) x more.allocates (subst (λ (y : FlexState). IsIn x y.machine.used) more.after i) other new)
-flex_used_was_used fllen sllen t s u (deallocate addr) notes x step i other new =
-    used_was_used fllen sllen s.machine step.machine (deallocate addr) x step.leads (subst (λ (y : FlexState). IsIn x y.machine.used) step.after i) other new
-flex_used_was_used fllen sllen t s u (reallocate addr size None) notes x step i other new = subst (λ (y : FlexState). IsIn x y.machine.used) step.asks.extends.after i
-flex_used_was_used fllen sllen t s u (reallocate addr size (Some to)) notes x (inl room) i other new =
-    used_was_used fllen sllen s.machine room.machine (reallocate addr size (Some to)) x room.reallocates (subst (λ (y : FlexState). IsIn x y.machine.used) room.after i) other new
-flex_used_was_used fllen sllen t s u (reallocate addr size (Some to)) notes x (inr more) i other new =
-    let m = more.meanwhile in
-    subst (IsIn x) (used-taken fllen t s m more.outcome more.asks.extends.after)
-    (reallocate_from x m.machine more.machine (subst (λ (y : FlexState). IsIn x y.machine.used) more.after i) sllen size more.block None (Some to) new more.moves)
-flex_used_was_used fllen sllen t s u (fill addr bytes) notes x step i other new =
-    used_was_used fllen sllen s.machine step.machine (fill addr bytes) x step.leads (subst (λ (y : FlexState). IsIn x y.machine.used) step.after i) other new
+flex_used_was_used fllen sllen t s u e notes x step i other new = was x other new (flex_step_goes fllen sllen t s u e notes step) i
 
 -- ---- and a run
 

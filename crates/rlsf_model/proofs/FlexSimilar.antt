@@ -42,14 +42,11 @@ outcome-agrees q o o' p p' a = go q.growth q.range o o' p p' a
     go None (Some n) (range_came c) refused p p' a = let bad = a.0 refl in absurd (cc)
     go None (Some n) (range_came c) (range_came d) p p' a = let same = a.0 refl in let is : c ≡ d = cc in ap range_came is
     go (Some (k, m)) r refused refused p p' a = refl
-    go (Some (k, m)) r refused (growth_came n) p p' a = let bad = a.0 (refl, refl) in absurd (cc)
-    go (Some (k, m)) r (growth_came n) refused p p' a = let bad = a.0 (refl, refl) in absurd (cc)
     go (Some (k, m)) r (growth_came n) (growth_came i) p p' a = let same = a.0 (refl, refl) in let is : n ≡ i = cc in ap growth_came is
-    go (Some (k, m)) (Some i) (range_came c) (growth_came n) p p' a = let bad = a.0 (refl, refl) in absurd (cc)
-    go (Some (k, m)) (Some i) (growth_came n) (range_came c) p p' a = let bad = a.0 (refl, refl) in absurd (cc)
     go (Some (k, m)) (Some i) refused (range_came c) p p' a = let bad = (a.1 refl).0 refl in absurd (cc)
     go (Some (k, m)) (Some i) (range_came c) refused p p' a = let bad = (a.1 refl).0 refl in absurd (cc)
     go (Some (k, m)) (Some i) (range_came c) (range_came d) p p' a = let same = (a.1 refl).0 refl in let is : c ≡ d = cc in ap range_came is
+    go (Some (k, m)) r o o' p p' a = let bad = a.0 (refl, refl) in absurd (cc)
 
 -- a reallocation is refused by the reference model, where the block is stuck and there is no room
 refuses_stuck : {fllen sllen : ℕ} {t : Terms} {x : FlexState} (addr size : ℕ) (v : Used) (outcome : Outcome) (ns : List Note) (m : FlexState) → IsStuck x.machine addr size v
@@ -229,8 +226,6 @@ flex_similar_states_agree fl_bits sl_bits fllen sllen memory t s s' u u' e e' no
 pub flex_similar_runs_agree : FlexSimilarRunsAgree
 flex_similar_runs_agree fl_bits sl_bits fllen sllen memory t s s' u u' [] [] valid w w' r run run' same agree =
     (refl, subst (λ x. AreFlexSimilar x u') (sym run) (subst (AreFlexSimilar s) (sym run') r))
-flex_similar_runs_agree fl_bits sl_bits fllen sllen memory t s s' u u' [] (d ∷ ds) valid w w' r run run' same agree = absurd same
-flex_similar_runs_agree fl_bits sl_bits fllen sllen memory t s s' u u' (c ∷ cs) [] valid w w' r run run' same agree = absurd same
 flex_similar_runs_agree fl_bits sl_bits fllen sllen memory t s s' u u' (c ∷ cs) (d ∷ ds) valid w w' r (m, step, rest) (m', step', rest') (same, others) agree =
     let (event, notes, near) =
     flex_similar_states_agree fl_bits sl_bits fllen sllen memory t s s' m m' c.event d.event c.notes d.notes valid w w' r step.answers step.leads step'.leads same
@@ -241,3 +236,4 @@ flex_similar_runs_agree fl_bits sl_bits fllen sllen memory t s s' u u' (c ∷ cs
     let second = flex_steps_keep_well_formed fl_bits sl_bits fllen sllen memory t s' m' d.event d.notes valid w' step' in
     let (more, end) = flex_similar_runs_agree fl_bits sl_bits fllen sllen memory t m m' u u' cs ds valid first second near rest rest' others behind in
     (ap₂ (λ x xs. x ∷ xs) is more, end)
+flex_similar_runs_agree fl_bits sl_bits fllen sllen memory t s s' u u' l l' valid w w' r run run' same agree = absurd same

@@ -27,14 +27,7 @@ use Rattle.rlsf_model.proofs.Trims.{Trims-keeps}
 use Rattle.rlsf_model.proofs.Steps.{Fills-keeps, empty_is_well_formed}
 
 pub flex_empty_is_well_formed : FlexEmptyIsWellFormed
-flex_empty_is_well_formed fllen sllen memory t rows row_length addressable space = record {
-  machine = empty_is_well_formed fllen sllen memory rows row_length addressable;
-  space = space;
-  pools = record { in_space = λ p i. absurd i; long = λ p i. absurd i; disjoint = λ a. omega arith };
-  housed = λ c i. absurd i;
-  newest = λ keep. refl;
-  pooled = λ p i. absurd i;
-}
+flex_empty_is_well_formed fllen sllen memory t rows row_length addressable space = grind (arith, empty_is_well_formed)
 
 module _ {fllen sllen : ℕ} {memory : Range} {t : Terms} {s : FlexState} (w : IsFlexWellFormed fllen sllen memory t s) where
   -- a step that leaves the chunks leaves a well-formed state
@@ -84,18 +77,16 @@ module _ {fl_bits sl_bits fllen sllen : ℕ} {memory : Range} {t : Terms} {s : F
       more.moves more.after
 
 pub flex_steps_keep_well_formed : FlexStepsKeepWellFormed
-flex_steps_keep_well_formed fl_bits sl_bits fllen sllen memory t s u (insert r reply) notes valid w step = absurd step.leads
-flex_steps_keep_well_formed fl_bits sl_bits fllen sllen memory t s u (append r reply) notes valid w step = absurd step.leads
 flex_steps_keep_well_formed fl_bits sl_bits fllen sllen memory t s u (allocate size align reply) notes valid w step =
     flex_allocated_keeps valid w u notes step.answers size align reply step.may step.leads
 flex_steps_keep_well_formed fl_bits sl_bits fllen sllen memory t s u (deallocate addr) notes valid w step =
     let d = step.leads in with_machine_keeps w d.machine u (Deallocates-keeps w.machine addr d.machine d.leads) (chunks-deallocated s.machine d.machine addr d.leads) d.after
 flex_steps_keep_well_formed fl_bits sl_bits fllen sllen memory t s u (reallocate addr size reply) notes valid w step =
     flex_reallocated_keeps valid w u notes step.answers addr size reply step.leads
-flex_steps_keep_well_formed fl_bits sl_bits fllen sllen memory t s u (remove r) notes valid w step = absurd step.leads
 flex_steps_keep_well_formed fl_bits sl_bits fllen sllen memory t s u (trim count) notes valid w step = Trims-keeps w count notes u step.leads
 flex_steps_keep_well_formed fl_bits sl_bits fllen sllen memory t s u (fill addr bytes) notes valid w step =
     let d = step.leads in with_machine_keeps w d.machine u (Fills-keeps w.machine addr bytes d.machine d.leads) (chunks-filled s.machine d.machine addr bytes d.leads) d.after
+flex_steps_keep_well_formed fl_bits sl_bits fllen sllen memory t s u e notes valid w step = absurd step.leads
 
 pub flex_runs_keep_well_formed : FlexRunsKeepWellFormed
 flex_runs_keep_well_formed fl_bits sl_bits fllen sllen memory t s u [] valid w run = subst (IsFlexWellFormed fllen sllen memory t) (sym run) w

@@ -44,5 +44,4 @@ pub more_wanted : (t : Terms) (kept : Option KeptPool) (wanted : Option ℕ) (ou
     → (e : ℕ) × (wanted ≡ Some e)
 more_wanted t kept (Some e) outcome more possible = (e, refl)
 more_wanted t kept None refused more possible = absurd (true≢false (sym more))
-more_wanted t kept None (growth_came len) more possible = absurd (true≢false (sym possible))
-more_wanted t kept None (range_came r) more possible = absurd (true≢false (sym possible))
+more_wanted t kept None o more possible = absurd (true≢false (sym possible))

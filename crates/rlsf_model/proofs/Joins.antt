@@ -16,16 +16,11 @@ pub record IsSound (free : List Range) : Type 0 where
   pub apart : IsApart free
 
 pub IsSound-without : (p : Range → Bool) (free : List Range) → IsSound free → IsSound (without p free)
-IsSound-without p free sound = record {
-  whole = λ f h. sound.whole f (IsIn-without p f free h);
-  apart = λ f g hf hg. sound.apart f g (IsIn-without p f free hf) (IsIn-without p g free hg);
-}
+IsSound-without p free sound = grind (arith, IsIn-without)
 
 -- a range is known by its start and its end
 pub covers-same : (r s : Range) (a : ℕ) → r.start ≡ s.start → end_of r ≡ end_of s → covers r a ≡ covers s a
-covers-same r s a start end =
-    let none : covers (between (end_of s) (end_of s)) a ≡ 0 = covers-empty (between (end_of s) (end_of s)) a (omega arith) in
-    omega (arith, covers-split s.start (end_of s) (end_of s) a (omega arith) (omega arith) r s (between (end_of s) (end_of s)) start end refl refl refl (omega arith))
+covers-same r s a start end = grind (arith, covers-empty, covers-split)
 
 -- what the range before an address adds
 pub record IsLeft (at : ℕ) (free : List Range) (o : Option Range) : Type 0 where

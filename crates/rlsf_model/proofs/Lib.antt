@@ -62,4 +62,5 @@ pub mod TrimmedSimilar
 pub mod Trims
 pub mod Uniform
 pub mod Untouched
+pub mod UsedBlocks
 mod Worked

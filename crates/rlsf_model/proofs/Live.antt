@@ -1,34 +1,32 @@
 -- The laws of live payloads.
-use Rattle.std.proofs.Common.{◌≡◌, ◌≢◌, ◌⊎◌, ℕ, ◌+◌, ◌-◌, ◌%◌, ◌<◌, ◌≤◌, cond, eqb, filter, List, [], ◌∷◌, Option, Some, None}
+use Rattle.std.proofs.Common.{◌≡◌, ◌≢◌, ◌⊎◌, ℕ, ◌+◌, ◌-◌, ◌<◌, ◌≤◌, cond, eqb, filter, List, [], ◌∷◌, Option, Some, None}
 use Rattle.std.proofs.Common.{true≢false, arith, refl, sym, ◌∙◌, ap, subst, inl, inr}
 use Rattle.std.proofs.lemmas.Bool.{eq-eqb, eqb-true, ne_eqb}
 use Rattle.rlsf_base.specs.declared.memory.range.Range.{Range}
 use Rattle.rlsf_base.specs.PowerOfTwo.{IsPowerOfTwo}
 use Rattle.rlsf_base.specs.Range.{end_of}
 use Rattle.rlsf_base.specs.Sizes.{request_size}
-use Rattle.rlsf_model.specs.Allocate.{placed, given, Places, Allocates}
+use Rattle.rlsf_model.specs.Allocate.{placed, given, Places}
 use Rattle.rlsf_model.specs.Laws.{LiveAddressesAreAligned, LiveAddressHasOneBlock, PayloadsAreDisjoint, PayloadLiesInOneChunk, HasSize, AllocationHasSize, ReallocationHasSize}
 use Rattle.rlsf_model.specs.Laws.{ReallocationKeepsBytes, OtherPayloadsStay, UsedWasUsed, HandedOutIsNew, ReallocatedIsLive, LiveStays, ReleasedIsNotLive, FilledHasBytes}
 use Rattle.rlsf_model.specs.Laws.{FillLeavesOthers, DeallocationLeavesOthers}
 use Rattle.rlsf_model.specs.Lists.{IsIn}
 use Rattle.rlsf_model.specs.Reallocate.{Keeps, Plan, plan, moved, ReallocatesBy, Reallocates}
-use Rattle.rlsf_model.specs.Run.{insert, append, allocate, deallocate, reallocate, fill, remove, trim, Fills, CallNames}
-use Rattle.rlsf_model.specs.State.{State, Used, Holds, IsLive, usable, others, filled, used_with_bytes}
+use Rattle.rlsf_model.specs.Run.{Fills, CallNames}
+use Rattle.rlsf_model.specs.State.{State, Used, Holds, IsLive, usable, filled, used_with_bytes}
 use Rattle.rlsf_model.specs.WellFormed.{covers, coverage, itself, IsUsed, IsWellFormed}
 use Rattle.rlsf_model.proofs.Allocations.{placed-fits, IsUsed-placed}
 use Rattle.rlsf_model.proofs.Changes.{Holds-unique, IsIn-others, IsIn-others_from}
 use Rattle.rlsf_model.proofs.Choices.{choice-some}
-use Rattle.rlsf_model.proofs.Chunks.{used-inserted, used-appended}
 use Rattle.rlsf_model.proofs.Coverage.{by_test, inside, before, behind, where_is, covers-inside, covers-le, coverage-IsIn, coverage-unique}
 use Rattle.rlsf_model.proofs.Fillings.{filled_at-none, filled_if-here, IsIn-filled_other, IsIn-filled_other_from, filled_holds}
 use Rattle.rlsf_model.proofs.Plans.{IsSoundPlan, IsSound-plan}
 use Rattle.rlsf_model.proofs.Payloads.{payload_of-after, IsUsed-aligned, IsUsed-after_start, IsUsed-some}
 use Rattle.rlsf_model.proofs.Tiling.{block_of, tiling_of, used-le, blocks-le, lies_in_chunk, IsPart-used}
+use Rattle.rlsf_model.proofs.UsedBlocks.{stays, step_goes, was}
 
 pub live_addresses_are_aligned : LiveAddressesAreAligned
-live_addresses_are_aligned fllen sllen memory s addr align w (u, (i, at), is) =
-    let aligned = IsUsed-aligned u (w.used u i) in
-    subst (λ n. n % align ≡ 0) at (subst (λ n. u.payload % n ≡ 0) is aligned)
+live_addresses_are_aligned fllen sllen memory s addr align w (u, (i, at), is) = grind (arith, IsUsed-aligned)
 
 -- ---- one block an address
 
@@ -67,14 +65,7 @@ live_address_has_one_block fllen sllen memory s addr u w h =
 
 -- an address in a payload is in its block
 usable-inside : (u : Used) → IsUsed u → (a : ℕ) → covers (usable u) a ≡ 1 → covers u.block a ≡ 1
-usable-inside u is a one =
-    let after_start = IsUsed-after_start u is in
-    let within = is.within in
-    elim (where_is (usable u) a) [
-      | inside some low high ↦ covers-inside u.block a (omega arith) (omega arith)
-      | before none low ↦ absurd (omega arith)
-      | behind none high ↦ absurd (omega arith)
-    ]
+usable-inside u is a one = grind (arith, IsUsed-after_start, where_is, covers-inside)
 
 pub payloads_are_disjoint : PayloadsAreDisjoint
 payloads_are_disjoint fllen sllen memory s u v a w iu iv apart =
@@ -265,37 +256,8 @@ reallocated_is_live fllen sllen memory s t addr size to align w live step = IsLi
 
 -- ---- payloads that a step doesn't name
 
-module _ (u : Used) (s t : State) (i : IsIn u s.used) where
-  stays_at : {r : State} → t ≡ r → IsIn u r.used → IsIn u t.used
-  stays_at is j = subst (λ x. IsIn u x.used) (sym is) j
-
-  allocate_stays : (sllen size align : ℕ) (reply : Option ℕ) → Allocates sllen s size align reply t → IsIn u t.used
-  allocate_stays sllen size align None step = stays_at step.1 i
-  allocate_stays sllen size align (Some addr) step = stays_at step.after (inr i)
-
-  others_stay : (addr : ℕ) (v : Used) → Holds s addr v → (addr ≡ u.payload → ⊥) → IsIn u (others v.payload s.used)
-  others_stay addr v holds apart = IsIn-others_from v.payload u s.used i (λ at. apart (sym holds.1 ∙ sym at))
-
-  pub reallocate_stays : (sllen addr size : ℕ) (v : Used) → Holds s addr v → (addr ≡ u.payload → ⊥) → (o : Option Plan) (reply : Option ℕ)
-      → ReallocatesBy sllen s v size o reply t → IsIn u t.used
-  reallocate_stays sllen addr size v holds apart (Some p) None step = absurd step
-  reallocate_stays sllen addr size v holds apart (Some p) (Some to) step = stays_at step.after (inr (others_stay addr v holds apart))
-  reallocate_stays sllen addr size v holds apart None None step = stays_at step.1 i
-  reallocate_stays sllen addr size v holds apart None (Some to) step =
-      let j : IsIn u step.meanwhile.used = subst (λ x. IsIn u x.used) (sym step.allocated.after) (inr i) in
-      let gone = step.released in
-      stays_at gone.after (IsIn-others_from gone.block.payload u step.meanwhile.used j (λ at. apart (sym holds.1 ∙ sym gone.holds.1 ∙ sym at)))
-
 pub other_payloads_stay : OtherPayloadsStay
-other_payloads_stay fllen sllen s t (insert r reply) u step i apart = subst (IsIn u) (sym (used-inserted fllen s t r reply step)) i
-other_payloads_stay fllen sllen s t (append r reply) u step i apart = subst (IsIn u) (sym (used-appended fllen s t r reply step)) i
-other_payloads_stay fllen sllen s t (allocate size align reply) u step i apart = allocate_stays u s t i sllen size align reply step
-other_payloads_stay fllen sllen s t (deallocate addr) u step i apart = stays_at u s t i step.after (others_stay u s t i addr step.block step.holds apart)
-other_payloads_stay fllen sllen s t (reallocate addr size reply) u step i apart =
-    reallocate_stays u s t i sllen addr size step.block step.holds apart (plan s step.block size) reply step.step
-other_payloads_stay fllen sllen s t (fill addr bytes) u step i apart = stays_at u s t i step.after (IsIn-filled_other addr bytes u s.used i (λ at. apart (sym at)))
-other_payloads_stay fllen sllen s t (remove r) u step i apart = stays_at u s t i step i
-other_payloads_stay fllen sllen s t (trim count) u step i apart = absurd step
+other_payloads_stay fllen sllen s t e u step i apart = stays u apart (step_goes fllen sllen s t e step) i
 
 pub live_stays : LiveStays
 live_stays fllen sllen s t e addr align step (u, (i, at), is) apart = (u, (other_payloads_stay fllen sllen s t e u step i (λ names. apart (subst (CallNames e) at names)), at), is)
@@ -304,43 +266,8 @@ pub released_is_not_live : ReleasedIsNotLive
 released_is_not_live s t addr align step (v, (i, at), is) =
     (IsIn-others step.block.payload v s.used (subst (λ x. IsIn v x.used) step.after i)).1 (at ∙ sym step.holds.1)
 
--- ---- where used blocks come from
-
-module _ (u : Used) (s t : State) (i : IsIn u t.used) where
-  -- it isn't the first one, whose address is another
-  from_rest : (v : Used) (rest : List Used) → t.used ≡ v ∷ rest → (v.payload ≡ u.payload → ⊥) → IsIn u rest
-  from_rest v rest is other =
-      let j : (u ≡ v) ⊎ IsIn u rest = subst (IsIn u) is i in
-      elim j [ inl same ↦ absurd (other (ap (λ x. x.payload) (sym same))) | inr k ↦ k ]
-
-  allocate_from : (sllen size align : ℕ) (reply : Option ℕ) → (reply ≡ Some u.payload → ⊥) → Allocates sllen s size align reply t → IsIn u s.used
-  allocate_from sllen size align None new step = subst (λ x. IsIn u x.used) step.1 i
-  allocate_from sllen size align (Some addr) new step =
-      from_rest (placed step.range size align step.bytes) s.used (ap (λ x. x.used) step.after) (λ at. new (ap Some (step.answer ∙ at)))
-
-module _ (u : Used) (s t : State) (i : IsIn u t.used) where
-  pub reallocate_from : (sllen size : ℕ) (v : Used) (o : Option Plan) (reply : Option ℕ) → (reply ≡ Some u.payload → ⊥) → ReallocatesBy sllen s v size o reply t
-      → IsIn u s.used
-  reallocate_from sllen size v (Some p) None new step = absurd step
-  reallocate_from sllen size v (Some p) (Some to) new step =
-      (IsIn-others v.payload u s.used
-      (from_rest u s t i (moved v p step.bytes) (others v.payload s.used) (ap (λ x. x.used) step.after) (λ at. new (ap Some (step.answer ∙ at))))).0
-  reallocate_from sllen size v None None new step = subst (λ x. IsIn u x.used) step.1 i
-  reallocate_from sllen size v None (Some to) new step =
-      let gone = step.released in
-      allocate_from u s step.meanwhile (IsIn-others gone.block.payload u step.meanwhile.used (subst (λ x. IsIn u x.used) gone.after i)).0 sllen size v.align (Some to) new
-      step.allocated
-
 pub used_was_used : UsedWasUsed
-used_was_used fllen sllen s t (insert r reply) u step i other new = subst (IsIn u) (used-inserted fllen s t r reply step) i
-used_was_used fllen sllen s t (append r reply) u step i other new = subst (IsIn u) (used-appended fllen s t r reply step) i
-used_was_used fllen sllen s t (allocate size align reply) u step i other new = allocate_from u s t i sllen size align reply new step
-used_was_used fllen sllen s t (deallocate addr) u step i other new = (IsIn-others step.block.payload u s.used (subst (λ x. IsIn u x.used) step.after i)).0
-used_was_used fllen sllen s t (reallocate addr size reply) u step i other new = reallocate_from u s t i sllen size step.block (plan s step.block size) reply new step.step
-used_was_used fllen sllen s t (fill addr bytes) u step i other new =
-    IsIn-filled_other_from addr bytes u s.used (subst (λ x. IsIn u x.used) step.after i) (λ at. other (sym at))
-used_was_used fllen sllen s t (remove r) u step i other new = subst (λ x. IsIn u x.used) step i
-used_was_used fllen sllen s t (trim count) u step i other new = absurd step
+used_was_used fllen sllen s t e u step i other new = was u other new (step_goes fllen sllen s t e step) i
 
 -- ---- what a fill and a deallocation leave
 
@@ -351,20 +278,7 @@ filled_has_bytes fllen sllen memory s t addr align bytes w (u, held, is) step =
     ((v, filled_holds step, ap (λ x. x.align) same ∙ is), (v, filled_holds step, refl))
 
 pub fill_leaves_others : FillLeavesOthers
-fill_leaves_others s t addr bytes step = (
-  ap (λ x. x.chunks) step.after,
-  ap (λ x. x.free) step.after,
-  λ u apart. (
-    λ i. stays_at u s t i step.after (IsIn-filled_other addr bytes u s.used i apart),
-    λ i. IsIn-filled_other_from addr bytes u s.used (subst (λ x. IsIn u x.used) step.after i) apart,
-  ),
-)
+fill_leaves_others s t addr bytes step = grind (arith, IsIn-filled_other, IsIn-filled_other_from)
 
 pub deallocation_leaves_others : DeallocationLeavesOthers
-deallocation_leaves_others s t addr step = (
-  ap (λ x. x.chunks) step.after,
-  λ u. (
-    λ i. let (j, apart) = IsIn-others step.block.payload u s.used (subst (λ x. IsIn u x.used) step.after i) in (j, λ at. apart (at ∙ sym step.holds.1)),
-    λ (i, apart). stays_at u s t i step.after (IsIn-others_from step.block.payload u s.used i (λ at. apart (at ∙ step.holds.1))),
-  ),
-)
+deallocation_leaves_others s t addr step = grind (arith, IsIn-others, IsIn-others_from)

@@ -47,7 +47,6 @@ unmoved_is_reallocated sllen s t addr size reply step = go (unmoved_plan s step.
   where
     go : (o : Option Plan) → unmoved_plan s step.block size ≡ o → (q : Option ℕ) → ReallocatesUnmovedBy s step.block o q t
         → IfSome q (λ to. (to ≡ addr) × Reallocates sllen s addr size (Some to) t) × IfNone q (t ≡ s)
-    go (Some p) is None by = absurd by
     go (Some p) is (Some to) by = (
       (
         by.answer ∙ payload-unmoved s step.block size p is ∙ step.holds.1,
@@ -56,4 +55,4 @@ unmoved_is_reallocated sllen s t addr size reply step = go (unmoved_plan s step.
       tt,
     )
     go None is None by = (tt, by)
-    go None is (Some to) by = absurd by
+    go o is o' by = absurd by

@@ -17,21 +17,19 @@ terms-led terms leads constant x y (n ∷ ns) (z, led, rest) = terms-led terms l
 
 -- a question is the same as itself
 IsSameQuestion-refl : (m : Note) → IsSameQuestion m m
-IsSameQuestion-refl (alloc n answer) = refl
 IsSameQuestion-refl (grow r n answer) = (refl, refl)
-IsSameQuestion-refl (dealloc r) = refl
+IsSameQuestion-refl x = refl
 
 -- a source whose answer and whose value after a question are determined by its value before answers the same questions the same
 pub AnswersAgree-led : {S : Type 0} (leads : S → Note → S → Type 0)
     → ((x y z : S) (m n : Note) → IsSameQuestion m n → leads x m y → leads x n z → (m ≡ n) × (y ≡ z))
     → (x y z : S) (ms ns : List Note) → LeadsBy leads x ms y → LeadsBy leads x ns z → AnswersAgree ms ns
-AnswersAgree-led leads steady x y z [] ns first second = tt
-AnswersAgree-led leads steady x y z (m ∷ ms) [] first second = tt
 AnswersAgree-led leads steady x y z (m ∷ ms) (n ∷ ns) (v, a, rest) (v', b, rest') = (
   λ same. (steady x v v' m n same a b).0,
   λ is. AnswersAgree-led leads steady v y z ms ns rest
       (subst (λ q. LeadsBy leads q ns z) (sym (steady x v v' m n (subst (IsSameQuestion m) is (IsSameQuestion-refl m)) a b).1) rest'),
 )
+AnswersAgree-led leads steady x y z l ns first second = tt
 
 -- the same notes lead such a source to the same value
 pub led-determined : {S : Type 0} (leads : S → Note → S → Type 0)
@@ -43,9 +41,8 @@ led-determined leads steady x y z (n ∷ ns) (v, a, rest) (v', b, rest') =
 
 -- the answers agree on what the notes begin with
 pub AnswersAgree-front : (ms ns xs ys : List Note) → AnswersAgree (ms ++ xs) (ns ++ ys) → AnswersAgree ms ns
-AnswersAgree-front [] ns xs ys agree = tt
-AnswersAgree-front (m ∷ ms) [] xs ys agree = tt
 AnswersAgree-front (m ∷ ms) (n ∷ ns) xs ys (first, rest) = (first, λ same. AnswersAgree-front ms ns xs ys (rest same))
+AnswersAgree-front l ns xs ys agree = tt
 
 -- and behind the same notes
 pub AnswersAgree-behind : (ns xs ys : List Note) → AnswersAgree (ns ++ xs) (ns ++ ys) → AnswersAgree xs ys

@@ -1,5 +1,5 @@
 -- The order of chunks and of used blocks means nothing.
-use Rattle.std.proofs.Common.{◌≡◌, ◌↔◌, ℕ, zero, suc, ◌+◌, ◌-◌, ◌*◌, ◌/◌, Bool, true, false, cond, not, eqb, filter, map, List, [], ◌∷◌, Option}
+use Rattle.std.proofs.Common.{◌≡◌, ◌↔◌, ℕ, zero, suc, ◌+◌, ◌-◌, Bool, true, false, cond, not, eqb, filter, map, List, [], ◌∷◌, Option}
 use Rattle.std.proofs.Common.{Some, None, find, true≢false, arith, refl, sym, ◌∙◌, ap, subst, inl, inr}
 use Rattle.std.proofs.lemmas.Bool.{eqb-true}
 use Rattle.rlsf_base.specs.declared.memory.range.Range.{Range}
@@ -31,16 +31,10 @@ HasSame-cons x xs ys same y =
     ((λ h. elim h [ inl e ↦ inl e | inr i ↦ inr ((same y).0 i) ]), (λ h. elim h [ inl e ↦ inl e | inr i ↦ inr ((same y).1 i) ]))
 
 pub HasSame-filter : {A : Type 0} (p : A → Bool) (xs ys : List A) → HasSame xs ys → HasSame (filter p xs) (filter p ys)
-HasSame-filter p xs ys same x = (
-  (λ h. let (i, e) = IsIn-filter p x xs h in IsIn-filter_from p x ys ((same x).0 i) e),
-  (λ h. let (i, e) = IsIn-filter p x ys h in IsIn-filter_from p x xs ((same x).1 i) e),
-)
+HasSame-filter p xs ys same x = grind (arith, IsIn-filter, IsIn-filter_from)
 
 HasSame-map : {A B : Type 0} (f : A → B) (xs ys : List A) → HasSame xs ys → HasSame (map f xs) (map f ys)
-HasSame-map {A} {B} f xs ys same y = (through xs ys (λ x. (same x).0), through ys xs (λ x. (same x).1))
-  where
-    through : (ks ls : List A) → ((x : A) → IsIn x ks → IsIn x ls) → IsIn y (map f ks) → IsIn y (map f ls)
-    through ks ls goes i = let (x, j, is) = IsIn-map_from f y ks i in subst (λ z. IsIn z (map f ls)) (sym is) (IsIn-map f x ls (goes x j))
+HasSame-map {A} {B} f xs ys same y = grind (arith, IsIn-map_from, IsIn-map)
 
 HasSame-others : (addr : ℕ) (xs ys : List Used) → HasSame xs ys → HasSame (others addr xs) (others addr ys)
 HasSame-others addr = HasSame-filter (λ u. not (eqb u.payload addr))
@@ -123,8 +117,7 @@ module _ {fllen sllen : ℕ} {memory : Range} {s s' : State} (w : IsWellFormed f
       subst (λ o. HasSameRanges (grown_if (find (ends_at at) s.chunks) (suc n) s) (grown_if o (suc n) s')) found (grown_if-same (find (ends_at at) s.chunks) (suc n))
 
   appended-same : (o : Option ℕ) (q : Range) → HasSameRanges (appended o q s) (appended o q s')
-  appended-same None q = extended-same q.start (q.len / 32 * 32)
-  appended-same (Some most) q = with_chunks-same (cut (Some most) (aligned_part q)) s s' r
+  appended-same o q = grind (arith, extended-same, with_chunks-same)
 
   HasSameRanges-at : {t t' u u' : State} → t ≡ u → t' ≡ u' → HasSameRanges u u' → HasSameRanges t t'
   HasSameRanges-at {t} {t'} {u} e e' q = subst (λ x. HasSameRanges x t') (sym e) (subst (HasSameRanges u) (sym e') q)

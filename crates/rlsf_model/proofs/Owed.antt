@@ -126,14 +126,12 @@ module _ {fllen sllen : ℕ} {memory : Range} {t : Terms} {s : FlexState} (w : I
       (subst (OwesAfterAll (g.gone ++ g.left) (map dealloc g.gone)) (sym g.pools) (owed-gone g.gone g.left)))
 
   owed-stepped : (e : Event) (notes : List Note) (u : FlexState) → IsFlexStep fllen sllen memory t s e notes u → OwesAfterAll s.pools notes u.pools
-  owed-stepped (insert r reply) notes u step = absurd step.leads
-  owed-stepped (append r reply) notes u step = absurd step.leads
   owed-stepped (allocate size align reply) notes u step = owed-allocated size align reply notes u step.leads
   owed-stepped (deallocate addr) notes u step = let d = step.leads in owed-same notes u d.none (ap (λ (x : FlexState). x.pools) d.after)
   owed-stepped (reallocate addr size reply) notes u step = owed-reallocated addr size reply notes u step.leads
   owed-stepped (fill addr bytes) notes u step = let d = step.leads in owed-same notes u d.none (ap (λ (x : FlexState). x.pools) d.after)
-  owed-stepped (remove r) notes u step = absurd step.leads
   owed-stepped (trim count) notes u step = owed-trimmed count notes u step.leads
+  owed-stepped e notes u step = absurd step.leads
 
 pub each_goes_back : EachGoesBack
 each_goes_back fl_bits sl_bits fllen sllen memory t s u cs valid w run =

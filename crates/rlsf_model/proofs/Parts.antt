@@ -1,7 +1,8 @@
 -- A part of a state: some of its chunks, with the blocks in them.
-use Rattle.std.proofs.Common.{◌≡◌, ℕ, suc, ◌+◌, ◌<◌, ◌≤◌, Bool, cond, filter, ltb, List, [], ◌∷◌, length, arith, refl, sym, ap, subst, inl}
+use Rattle.std.proofs.Common.{◌≡◌, ℕ, ◌+◌, ◌<◌, ◌≤◌, Bool, filter, ltb, List, [], ◌∷◌, length, arith, refl, sym, ap, subst, inl}
 use Rattle.std.proofs.Common.{inr}
-use Rattle.std.proofs.lemmas.Bool.{cases_lt, lt-ltb, le-ltb}
+use Rattle.std.proofs.lemmas.Bool.Decides.{nat_tests}
+use Rattle.std.proofs.lemmas.Bool.{cases_lt}
 use Rattle.std.proofs.lemmas.List.Sums.{sum_by-cons}
 use Rattle.rlsf_base.specs.declared.memory.range.Range.{Range}
 use Rattle.rlsf_base.specs.Range.{end_of}
@@ -10,7 +11,7 @@ use Rattle.rlsf_model.specs.Lists.{IsIn}
 use Rattle.rlsf_model.specs.State.{State}
 use Rattle.rlsf_model.specs.WellFormed.{covers, coverage, itself, last_bytes, IsWellFormed}
 use Rattle.rlsf_model.proofs.Changes.{IsApart-within}
-use Rattle.rlsf_model.proofs.Coverage.{by_test, inside, before, behind, where_is, covers-inside, coverage-IsIn, coverage-some, coverage-unique, IsIn-filter}
+use Rattle.rlsf_model.proofs.Coverage.{inside, before, behind, where_is, covers-inside, coverage-IsIn, coverage-some, coverage-unique, IsIn-filter}
 use Rattle.rlsf_model.proofs.Payloads.{IsUsed-some}
 use Rattle.rlsf_model.proofs.Sums.{coverage-le}
 use Rattle.rlsf_model.proofs.Tiling.{block_of, blocks, tiling_of, LiesInChunk, lies_in_chunk, IsPart-free, IsPart-used, IsWellFormed-from}
@@ -25,10 +26,7 @@ part cs s = record { chunks = cs; used = filter (λ u. begins_in cs u.block) s.u
 
 pub length-filter_le : {A : Type 0} (p : A → Bool) (xs : List A) → length (filter p xs) ≤ length xs
 length-filter_le p [] = omega arith
-length-filter_le p (y ∷ xs) = by_test (p y)
-    (λ e. let is : length (filter p (y ∷ xs)) ≡ suc (length (filter p xs)) = ap (λ b. length (cond b (y ∷ filter p xs) (filter p xs))) e in
-    omega (arith, length-filter_le p xs))
-    (λ e. let is : length (filter p (y ∷ xs)) ≡ length (filter p xs) = ap (λ b. length (cond b (y ∷ filter p xs) (filter p xs))) e in omega (arith, length-filter_le p xs))
+length-filter_le p (y ∷ xs) = grind (arith, nat_tests, length-filter_le p xs)
 
 module _ {fllen sllen : ℕ} {memory : Range} {s : State} (w : IsWellFormed fllen sllen memory s) (cs : List Range) (are : (c : Range) → IsIn c cs → IsIn c s.chunks) where
   -- where one address of a block is in the chunks, each is
@@ -49,39 +47,10 @@ module _ {fllen sllen : ℕ} {memory : Range} {s : State} (w : IsWellFormed flle
       → (1 ≤ coverage itself cs a → coverage range (filter (λ x. begins_in cs (range x)) xs) a ≡ coverage range xs a)
       × (coverage itself cs a ≡ 0 → coverage range (filter (λ x. begins_in cs (range x)) xs) a ≡ 0)
   coverage-part range [] a lies = (λ some. refl, λ none. refl)
-  coverage-part {A = A} range (x ∷ xs) a lies =
-      let p : A → Bool = λ y. begins_in cs (range y) in
-      let rest = coverage-part range xs a (λ y i. lies y (inr i)) in
-      let home = lies x (inl refl) in
-      elim (cases_lt 0 (coverage itself cs (range x).start)) [
-        | inl starts ↦
-            let is : coverage range (filter p (x ∷ xs)) a ≡ covers (range x) a + coverage range (filter p xs) a =
-            ap (λ b. coverage range (cond b (x ∷ filter p xs) (filter p xs)) a) (lt-ltb 0 (coverage itself cs (range x).start) starts) in (
-              λ some. omega (arith, rest.0 some),
-              λ none. elim (where_is (range x) a) [
-                | inside one low high ↦ absurd (omega (arith, same_part (range x) home (range x).start a (omega arith) (omega arith) low high starts))
-                | before miss low ↦ omega (arith, rest.1 none)
-                | behind miss high ↦ omega (arith, rest.1 none)
-              ],
-            )
-        | inr not_there ↦
-            let is : coverage range (filter p (x ∷ xs)) a ≡ coverage range (filter p xs) a =
-            ap (λ b. coverage range (cond b (x ∷ filter p xs) (filter p xs)) a) (le-ltb 0 (coverage itself cs (range x).start) not_there) in (
-              λ some. elim (where_is (range x) a) [
-                | inside one low high ↦ absurd (omega (arith, same_part (range x) home a (range x).start low high (omega arith) (omega arith) some))
-                | before miss low ↦ omega (arith, rest.0 some)
-                | behind miss high ↦ omega (arith, rest.0 some)
-              ],
-              λ none. omega (arith, rest.1 none),
-            )
-      ]
+  coverage-part {A = A} range (x ∷ xs) a lies = grind (arith, nat_tests, coverage-part range xs a, where_is, same_part)
 
   last-le : (c : Range) → 64 ≤ c.len → (a : ℕ) → covers (last_bytes c) a ≤ covers c a
-  last-le c room a = elim (where_is (last_bytes c) a) [
-    | inside one low high ↦ omega (arith, covers-inside c a (omega arith) (omega arith))
-    | before none low ↦ omega arith
-    | behind none high ↦ omega arith
-  ]
+  last-le c room a = grind (arith, where_is, covers-inside)
 
   -- at an address in the chunks, their last bytes are those of the state
   coverage-last : ((a : ℕ) → coverage itself cs a ≤ 1) → (a : ℕ) → 1 ≤ coverage itself cs a → coverage last_bytes cs a ≡ coverage last_bytes s.chunks a

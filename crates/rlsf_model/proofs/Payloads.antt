@@ -1,5 +1,5 @@
 -- Where a payload lies in its block, and how long the block is.
-use Rattle.std.proofs.Common.{◌≡◌, ◌≢◌, ℕ, zero, suc, ◌+◌, ◌-◌, ◌*◌, ◌/◌, ◌%◌, ◌^◌, ◌<◌, ◌≤◌, List, [], ◌∷◌, Some, None, cond}
+use Rattle.std.proofs.Common.{◌≡◌, ◌≢◌, ℕ, zero, suc, ◌+◌, ◌-◌, ◌*◌, ◌/◌, ◌%◌, ◌^◌, ◌<◌, ◌≤◌, List, [], ◌∷◌, None, cond}
 use Rattle.std.proofs.Common.{not, arith, inl, inr, refl, sym, ◌∙◌, ap, subst}
 use Rattle.std.proofs.lemmas.Bool.{cases_lt, le-leb, ne_eqb}
 use Rattle.std.proofs.lemmas.Nat.{pow_pos, pow-add}
@@ -7,23 +7,17 @@ use Rattle.std.proofs.Math.Nat.{div-add-mod'}
 use Rattle.std.specs.Int.{next_multiple_of}
 use Rattle.rlsf_base.specs.declared.memory.range.Range.{Range}
 use Rattle.rlsf_base.specs.PowerOfTwo.{IsPowerOfTwo, floor_log2}
-use Rattle.rlsf_base.specs.Range.{end_of}
 use Rattle.rlsf_base.specs.Sizes.{request_size}
 use Rattle.rlsf_base.proofs.Numbers.PowersOfTwo.{IsPowerOfTwo-positive}
 use Rattle.rlsf_base.proofs.Numbers.Roundings.{next_multiple_of-le, next_multiple_of-lt, next_multiple_of-multiple}
 use Rattle.rlsf_model.specs.Lists.{IsIn}
 use Rattle.rlsf_model.specs.Payload.{payload_of, block_length}
-use Rattle.rlsf_model.specs.Reallocate.{in_place, resized, tail_joined, Plan}
+use Rattle.rlsf_model.specs.Reallocate.{in_place}
 use Rattle.rlsf_model.specs.State.{State, Used, others, usable}
 use Rattle.rlsf_model.specs.WellFormed.{IsUsed, IsWellFormed}
 
 -- rounding the address 16 bytes into a block up to a power of two adds that power less 16 at most
 payload_pow : (k b : ℕ) → b % 32 ≡ 0 → payload_of b (2 ^ k) ≤ b + 16 + (2 ^ k - 16)
-payload_pow zero b whole = omega arith
-payload_pow (suc zero) b whole = omega arith
-payload_pow (suc (suc zero)) b whole = omega arith
-payload_pow (suc (suc (suc zero))) b whole = omega arith
-payload_pow (suc (suc (suc (suc zero)))) b whole = omega arith
 payload_pow (suc (suc (suc (suc (suc k))))) b whole =
     let n = 2 ^ (5 + k) in
     let exponent : suc (suc (suc (suc (suc k)))) ≡ 5 + k = omega arith in
@@ -33,13 +27,10 @@ payload_pow (suc (suc (suc (suc (suc k))))) b whole =
     let product : p / n * n ≡ p / n * (32 * 2 ^ k) = ap (λ m. p / n * m) times in
     let multiple : p ≡ 32 * (p / n * 2 ^ k) = omega (arith, div-add-mod' p n, next_multiple_of-multiple (b + 16) n some) in
     subst (λ e. payload_of b (2 ^ e) ≤ b + 16 + (2 ^ e - 16)) (sym exponent) (omega (arith, next_multiple_of-lt (b + 16) n some))
+payload_pow n b whole = omega arith
 
 -- the payload of a block lies at a multiple of 16
 even_payload : (k b : ℕ) → b % 32 ≡ 0 → payload_of b (2 ^ k) % 16 ≡ 0
-even_payload zero b whole = omega arith
-even_payload (suc zero) b whole = omega arith
-even_payload (suc (suc zero)) b whole = omega arith
-even_payload (suc (suc (suc zero))) b whole = omega arith
 even_payload (suc (suc (suc (suc k)))) b whole =
     let n = 2 ^ (4 + k) in
     let exponent : suc (suc (suc (suc k))) ≡ 4 + k = omega arith in
@@ -49,6 +40,7 @@ even_payload (suc (suc (suc (suc k)))) b whole =
     let product : p / n * n ≡ p / n * (16 * 2 ^ k) = ap (λ m. p / n * m) times in
     let multiple : p ≡ 16 * (p / n * 2 ^ k) = omega (arith, div-add-mod' p n, next_multiple_of-multiple (b + 16) n some) in
     subst (λ e. payload_of b (2 ^ e) % 16 ≡ 0) (sym exponent) (omega (arith, multiple))
+even_payload n b whole = omega arith
 
 pub payload_of-le : (b align : ℕ) → b % 32 ≡ 0 → IsPowerOfTwo align → payload_of b align ≤ b + 16 + (align - 16)
 payload_of-le b align whole power = subst (λ n. payload_of b n ≤ b + 16 + (n - 16)) (sym power) (payload_pow (floor_log2 align) b whole)
@@ -65,10 +57,7 @@ IsUsed-aligned u is = subst (λ p. p % u.align ≡ 0) (sym is.placed) (payload_o
 
 -- and of 16
 pub IsUsed-even : (u : Used) → IsUsed u → u.payload % 16 ≡ 0
-IsUsed-even u is =
-    let k = floor_log2 u.align in
-    let rounded : u.payload ≡ payload_of u.block.start (2 ^ k) = is.placed ∙ ap (payload_of u.block.start) is.power in
-    omega (arith, rounded, even_payload k u.block.start is.whole.start)
+IsUsed-even u is = grind (arith, even_payload)
 
 -- and it lies 16 bytes or more into the block
 pub IsUsed-after_start : (u : Used) → IsUsed u → u.block.start + 16 ≤ u.payload
@@ -90,13 +79,7 @@ block_length-whole b p size = omega arith
 
 -- the block is not longer than what is sought
 pub block_length-request : (b size align : ℕ) → b % 32 ≡ 0 → IsPowerOfTwo align → block_length b (payload_of b align) size ≤ request_size size align
-block_length-request b size align whole power =
-    let p = payload_of b align in
-    let below : p ≤ b + 16 + (align - 16) = payload_of-le b align whole power in
-    rounded (p - b + size) (size + (align - 16) + 16) (omega arith)
-  where
-    rounded : (m n : ℕ) → m ≤ n → next_multiple_of m 32 ≤ next_multiple_of n 32
-    rounded m n order = omega arith
+block_length-request b size align whole power = grind (arith, payload_of-le)
 
 -- used blocks none of which has the address are all left without it
 pub others-none : (addr : ℕ) (used : List Used) → ((v : Used) → IsIn v used → v.payload ≢ addr) → others addr used ≡ used
@@ -108,12 +91,4 @@ others-none addr (x ∷ xs) none =
 -- a block that can't have the size in place has fewer usable bytes
 pub usable-short : {fllen sllen : ℕ} {memory : Range} {s : State} → IsWellFormed fllen sllen memory s → (u : Used) → IsIn u s.used → (size : ℕ)
     → in_place s u size ≡ None → (usable u).len < size
-usable-short {s = s} w u i size short =
-    let is = w.used u i in
-    elim (cases_lt (end_of u.block) (end_of (resized u size))) [
-      | inl past ↦ omega (arith, past, is.whole.len, is.within, IsUsed-after_start u is)
-      | inr fits ↦
-          let plan : Plan = record { block = resized u size; payload = u.payload; free = tail_joined (resized u size) (end_of u.block) s.free } in
-          let bad : Some plan ≡ None = sym (ap (λ b. cond b (Some plan) None) (le-leb (end_of (resized u size)) (end_of u.block) fits)) ∙ short in
-          absurd (cc)
-    ]
+usable-short {s = s} w u i size short = grind (arith, cases_lt, IsUsed-after_start, le-leb)

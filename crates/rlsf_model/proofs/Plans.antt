@@ -1,6 +1,7 @@
 -- The plans of a reallocation: where a block and its payload can go.
-use Rattle.std.proofs.Common.{◌≡◌, ◌≢◌, ℕ, ◌+◌, ◌-◌, ◌%◌, ◌<◌, ◌≤◌, ◌⊎◌, Bool, true, false, cond, leb, List, [], ◌∷◌, ◌++◌}
+use Rattle.std.proofs.Common.{◌≡◌, ◌≢◌, ℕ, ◌+◌, ◌-◌, ◌%◌, ◌<◌, ◌≤◌, ◌⊎◌, Bool, true, cond, leb, List, [], ◌∷◌, ◌++◌}
 use Rattle.std.proofs.Common.{Option, Some, None, find, length, arith, refl, sym, ap, subst, inl, inr}
+use Rattle.std.proofs.lemmas.Bool.Decides.{nat_tests}
 use Rattle.std.proofs.lemmas.Bool.{cases_lt, lt-ltb, le-ltb, leb-true}
 use Rattle.rlsf_base.specs.declared.memory.range.Range.{Range}
 use Rattle.rlsf_base.specs.Range.{end_of}
@@ -172,21 +173,13 @@ module _ {fllen sllen : ℕ} {memory : Range} {s : State} (w : IsWellFormed flle
 
   -- a plan that was made is sound
   tested : (b : Bool) (q p : Plan) → (b ≡ true → IsSoundPlan s u size q) → cond b (Some q) None ≡ Some p → IsSoundPlan s u size p
-  tested true q p sound e = let same : q ≡ p = cc in subst (IsSoundPlan s u size) same (sound refl)
-  tested false q p sound e = absurd (cc)
+  tested b q p sound e = grind arith
 
   pub IsSound-in_place : (p : Plan) → in_place s u size ≡ Some p → IsSoundPlan s u size p
-  IsSound-in_place p e =
-      tested (leb (end_of (resized u size)) (end_of u.block)) (record { block = resized u size; payload = u.payload; free = tail_joined (resized u size) (end_of u.block) s.free })
-      p
-      (λ fits. in_place_sound (leb-true (end_of (resized u size)) (end_of u.block) fits)) e
+  IsSound-in_place p e = grind (arith, nat_tests, tested, in_place_sound)
 
   pub IsSound-into_next : (p : Plan) → into_next s u size ≡ Some p → IsSoundPlan s u size p
-  IsSound-into_next p e =
-      let end = end_or (end_of u.block) (find (starts_at (end_of u.block)) s.free) in
-      tested (leb (end_of (resized u size)) end)
-      (record { block = resized u size; payload = u.payload; free = rest_behind (resized u size) end ++ without (starts_at (end_of u.block)) s.free }) p
-      (λ fits. into_next_sound (leb-true (end_of (resized u size)) end fits)) e
+  IsSound-into_next p e = grind (arith, tested, into_next_sound, leb-true)
 
   pub IsSound-into_previous : (p : Plan) → into_previous s u size ≡ Some p → IsSoundPlan s u size p
   IsSound-into_previous p e = go (find (ends_at u.block.start) s.free) refl e
@@ -202,8 +195,7 @@ module _ {fllen sllen : ℕ} {memory : Range} {s : State} (w : IsWellFormed flle
           (λ fits. into_previous_sound f found (leb-true (end_of block) end fits)) e
 
   or_else-some : (q r : Option Plan) (p : Plan) → or_else q r ≡ Some p → (q ≡ Some p) ⊎ (r ≡ Some p)
-  or_else-some None r p e = inr e
-  or_else-some (Some q) r p e = inl e
+  or_else-some o r p e = grind arith
 
   pub IsSound-plan : (p : Plan) → plan s u size ≡ Some p → IsSoundPlan s u size p
   IsSound-plan p e = elim (or_else-some (in_place s u size) (or_else (into_next s u size) (into_previous s u size)) p e) [

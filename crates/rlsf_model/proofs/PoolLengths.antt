@@ -1,18 +1,17 @@
 -- Pools of the lengths that are computed for many payloads.
-use Rattle.std.proofs.Common.{◌≡◌, ℕ, ◌+◌, ◌-◌, ◌*◌, ◌/◌, ◌%◌, ◌<◌, ◌≤◌, [], ◌∷◌, length, arith, ◌∙◌, ap, subst, inl, inr}
+use Rattle.std.proofs.Common.{◌≡◌, ℕ, ◌+◌, ◌-◌, ◌*◌, ◌%◌, ◌<◌, ◌≤◌, [], ◌∷◌, length, arith, ◌∙◌, ap, subst, inl, inr}
 use Rattle.std.proofs.lemmas.List.Sums.{sum_by-cons}
 use Rattle.std.proofs.lemmas.Nat.{div-mul-add}
 use Rattle.rlsf_base.specs.declared.memory.range.Range.{Range}
-use Rattle.rlsf_base.specs.Rounding.{round32}
 use Rattle.rlsf_base.specs.SizeClass.{Reaches, class_of}
 use Rattle.rlsf_base.specs.Sizes.{IsSize, payloads_length, request_size}
 use Rattle.rlsf_base.proofs.Numbers.Roundings.{round32-same}
 use Rattle.rlsf_base.proofs.SizeMaps.ChunkLengths.{IsBudgetPool, IsBudgetPool-some, IsObjectPool-some, IsPayloadPool, IsPayloadPool-some}
 use Rattle.rlsf_base.proofs.SizeMaps.Laws.{IsSize-request_size}
-use Rattle.rlsf_model.specs.Budget.{HasBudget, HasRoomForBudget, total_len}
+use Rattle.rlsf_model.specs.Budget.{HasBudget, HasRoomForBudget}
 use Rattle.rlsf_model.specs.Insert.{body}
 use Rattle.rlsf_model.specs.Lists.{IsIn}
-use Rattle.rlsf_model.specs.Run.{Event, insert, append, allocate, deallocate, reallocate, fill, remove, trim}
+use Rattle.rlsf_model.specs.Run.{Event}
 use Rattle.rlsf_model.specs.Sizing.{BudgetPoolIsEnough, PayloadPoolIsEnough, ObjectPoolIsExact}
 use Rattle.rlsf_model.specs.State.{State}
 use Rattle.rlsf_model.specs.Uniform.{AreDeniedOnlyAt, AsksForObject, AsksUniformly, IsUniform, blocks_in}
@@ -31,9 +30,7 @@ gaps count size n len short = omega arith
 
 pub HasBudget-reached : (count size sllen least : ℕ) (c : Range) → IsSize least → Reaches sllen (class_of sllen least) size → payloads_length count size least ≤ c.len
     → HasBudget count size sllen (c ∷ [])
-HasBudget-reached count size sllen least c is reaches long =
-    let all : c.len ≡ total_len (c ∷ []) = omega (arith, sum_by-cons (λ (r : Range). r.len) c []) in
-    record { least = least; taken = record { is = is; reaches = reaches }; enough = gaps count size (least - 32) (total_len (c ∷ [])) (omega (arith, long, all, is.0, is.1)) }
+HasBudget-reached count size sllen least c is reaches long = grind (arith, sum_by-cons, gaps)
 
 pub HasBudget-pool : {fllen : ℕ} (count size sllen len : ℕ) (c : Range) → IsPayloadPool fllen sllen count size len → len ≤ c.len → HasBudget count size sllen (c ∷ [])
 HasBudget-pool count size sllen len c pool long = HasBudget-reached count size sllen pool.least c pool.is pool.reaches (omega (arith, pool.length, long))
@@ -54,13 +51,7 @@ sums count bytes n len long = omega arith
 -- bytes that a chunk's length leaves out, since it is a multiple of 32, do no harm
 pub HasRoomForBudget-pool : {fllen : ℕ} (count bytes size sllen len : ℕ) (c : Range) → IsBudgetPool fllen sllen count bytes size len → len < c.len + 32
     → HasRoomForBudget count bytes size sllen (c ∷ [])
-HasRoomForBudget-pool count bytes size sllen len c pool long =
-    let all : c.len ≡ total_len (c ∷ []) = omega (arith, sum_by-cons (λ (r : Range). r.len) c []) in
-    record {
-      least = pool.least;
-      taken = record { is = pool.is; reaches = pool.reaches };
-      enough = sums count bytes (pool.least - 32) (total_len (c ∷ [])) (omega (arith, pool.length, long, all));
-    }
+HasRoomForBudget-pool count bytes size sllen len c pool long = grind (arith, sum_by-cons, sums)
 
 pub budget_pool_is_enough : BudgetPoolIsEnough
 budget_pool_is_enough fl_bits sl_bits fllen sllen count bytes size align len memory s t c es valid w told is_chunk long run =
@@ -93,25 +84,13 @@ IsUniform-idle {fllen} {sllen} {memory} {s} w c len idle alone = record {
 }
 
 request_size-object : (block asked align : ℕ) → block % 32 ≡ 0 → 0 < block → asked ≡ block - 16 → align ≤ 16 → request_size asked align ≡ block
-request_size-object block asked align whole some is small =
-    let sum : asked + (align - 16) + 16 ≡ block = omega arith in
-    ap round32 sum ∙ round32-same block whole
+request_size-object block asked align whole some is small = grind (arith, round32-same)
 
 asks_uniformly : (block asked : ℕ) → block % 32 ≡ 0 → 0 < block → asked ≡ block - 16 → (e : Event) → AsksForObject asked e → AsksUniformly block e
-asks_uniformly block asked whole some is (insert r reply) asks = absurd asks
-asks_uniformly block asked whole some is (append r reply) asks = absurd asks
-asks_uniformly block asked whole some is (allocate size align reply) (same, small) =
-    (ap (λ n. request_size n align) same ∙ request_size-object block asked align whole some is small, omega arith)
-asks_uniformly block asked whole some is (deallocate addr) asks = tt
-asks_uniformly block asked whole some is (reallocate addr size reply) asks = absurd asks
-asks_uniformly block asked whole some is (fill addr bytes) asks = tt
-asks_uniformly block asked whole some is (remove r) asks = absurd asks
-asks_uniformly block asked whole some is (trim n) asks = absurd asks
+asks_uniformly block asked whole some is e asks = grind (arith, request_size-object)
 
 blocks_in-pool : (count block : ℕ) (c : Range) → 0 < block → c.len ≡ count * block + 32 → blocks_in block c ≡ count
-blocks_in-pool count block c some is =
-    let sum : c.len - 32 ≡ count * block + 0 = omega arith in
-    ap (λ n. n / block) sum ∙ div-mul-add count block 0 some
+blocks_in-pool count block c some is = grind (arith, div-mul-add)
 
 pub object_pool_is_exact : ObjectPoolIsExact
 object_pool_is_exact fl_bits sl_bits fllen sllen count size len asked memory s t c es valid w told idle alone long run asks =

@@ -1,6 +1,7 @@
 -- How long a range is asked for, and that a pool has room in what comes.
-use Rattle.std.proofs.Common.{◌≡◌, ◌⊎◌, ℕ, ◌+◌, ◌-◌, ◌*◌, ◌/◌, ◌%◌, ◌^◌, ◌≤◌, Bool, true, false, cond, List, Option, Some, None, arith}
-use Rattle.std.proofs.Common.{sym, ◌∙◌, ap, inl, inr}
+use Rattle.std.proofs.Common.{◌≡◌, ◌⊎◌, ℕ, ◌+◌, ◌-◌, ◌*◌, ◌/◌, ◌%◌, ◌^◌, ◌≤◌, List, Option, Some, None, arith}
+use Rattle.std.proofs.Common.{◌∙◌, ap}
+use Rattle.std.proofs.lemmas.Bool.Decides.{nat_tests}
 use Rattle.std.proofs.lemmas.Bool.{cases_lt, le-ltb, lt-ltb}
 use Rattle.std.proofs.lemmas.Nat.{pow-add}
 use Rattle.std.proofs.lemmas.Option.{none-some, same_Some}
@@ -9,23 +10,17 @@ use Rattle.rlsf_base.specs.declared.memory.range.Range.{Range}
 use Rattle.rlsf_base.specs.PowerOfTwo.{floor_log2, IsPowerOfTwo}
 use Rattle.rlsf_base.proofs.Numbers.PowersOfTwo.{floor_log2-lt, pow-between}
 use Rattle.rlsf_model.specs.FlexState.{KeptPool}
-use Rattle.rlsf_model.specs.Growth.{if_fits, questions_for, questions_kept, range_length}
+use Rattle.rlsf_model.specs.Growth.{if_fits, questions_for, range_length}
 use Rattle.rlsf_model.specs.PoolLength.{HasAlignedPart}
 use Rattle.rlsf_model.specs.Terms.{IsGiven, Terms}
 
 -- a number that fits is itself
 pub if_fits-some : (n len : ℕ) → if_fits n ≡ Some len → len ≡ n
-if_fits-some n len told = elim (cases_lt n (2 ^ 64)) [
-  | inl fits ↦ same_Some len n (sym told ∙ ap (λ b. cond b (Some n) None) (lt-ltb n (2 ^ 64) fits))
-  | inr long ↦ absurd (none-some len (sym (ap (λ b. cond b (Some n) None) (le-ltb n (2 ^ 64) long)) ∙ told))
-]
+if_fits-some n len told = grind (arith, cases_lt, same_Some, lt-ltb, none-some, le-ltb)
 
 -- 32 bytes more than are wanted, or what is wanted where all starts are multiples of 32
 pub range_length-is : (t : Terms) (e len : ℕ) → range_length t e ≡ Some len → (len ≡ e + 32) ⊎ ((32 ≤ t.min_align) × (len ≡ e))
-range_length-is t e len told = elim (cases_lt t.min_align 32) [
-  | inl less ↦ inl (if_fits-some (e + 32) len (sym (ap (λ b. cond b (if_fits (e + 32)) (Some e)) (lt-ltb t.min_align 32 less)) ∙ told))
-  | inr enough ↦ inr (enough, same_Some len e (sym told ∙ ap (λ b. cond b (if_fits (e + 32)) (Some e)) (le-ltb t.min_align 32 enough)))
-]
+range_length-is t e len told = grind (arith, cases_lt, if_fits-some, lt-ltb, same_Some, le-ltb)
 
 -- a multiple of an alignment of 32 or more is one of 32
 pub wide_whole : (p align : ℕ) → IsPowerOfTwo align → 32 ≤ align → p % align ≡ 0 → p % 32 ≡ 0
@@ -40,20 +35,9 @@ wide_whole p align power wide multiple =
 
 -- what comes has the aligned part that is wanted
 pub HasAlignedPart-given : (t : Terms) (owed : List Range) (e len : ℕ) (r : Range) → range_length t e ≡ Some len → IsGiven t owed len r → HasAlignedPart r e
-HasAlignedPart-given t owed e len r told g = elim (range_length-is t e len told) [
-  | inl more ↦ inl (omega (arith, g.long))
-  | inr same ↦ inr (wide_whole r.start t.min_align g.power same.0 g.aligned, omega (arith, g.long, same.1))
-]
+HasAlignedPart-given t owed e len r told g = grind (arith, range_length-is, wide_whole)
 
 -- a range that is asked for has that length
 pub range_asked : (t : Terms) (kept : Option KeptPool) (e n : ℕ) → (questions_for t kept e).range ≡ Some n → range_length t e ≡ Some n
 range_asked t None e n asked = asked
-range_asked t (Some k) e n asked = go (if_fits (k.len + e)) asked
-  where
-    unless : (b : Bool) → cond b None (range_length t e) ≡ Some n → range_length t e ≡ Some n
-    unless true asked = absurd (none-some n asked)
-    unless false asked = asked
-
-    go : (o : Option ℕ) → (questions_kept t k e o).range ≡ Some n → range_length t e ≡ Some n
-    go None asked = absurd (none-some n asked)
-    go (Some m) asked = unless t.contiguous asked
+range_asked t (Some k) e n asked = grind (arith, nat_tests, none-some)

@@ -29,11 +29,7 @@ IsPool-same s t p len same is = record {
 
 -- the last chunk of a pool
 pub IsPool-last : (s : State) (p : Range) (len : ℕ) → IsPool s p len → (c : Range) × IsIn c s.chunks × (p.start ≤ c.start) × (end_of c ≡ p.start + len)
-IsPool-last s p len is =
-    let begins = round32-le p.start in
-    let some = is.some in
-    let (c, i, from, low, high, to) = is.row (p.start + len - 1) (omega arith) (omega arith) in
-    (c, i, omega arith, omega arith)
+IsPool-last s p len is = grind (arith, round32-le)
 
 -- no chunk ends in the range behind its pool
 pub IsPool-no_later : (s : State) (p c : Range) (len : ℕ) → IsPool s p len → IsIn c s.chunks → 0 < c.len → end_of c ≤ end_of p → end_of c ≤ p.start + len

@@ -1,5 +1,5 @@
 -- Outstanding ranges, and the chunks that they house.
-use Rattle.std.proofs.Common.{◌≡◌, ℕ, ◌<◌, ◌≤◌, List, ◌∷◌, Option, arith, refl, sym, ap, subst, inl, inr}
+use Rattle.std.proofs.Common.{◌≡◌, ℕ, ◌<◌, ◌≤◌, List, ◌∷◌, Option, arith, refl, ap, inl, inr}
 use Rattle.std.proofs.lemmas.Bool.{cases_lt}
 use Rattle.rlsf_base.specs.declared.memory.range.Range.{Range}
 use Rattle.rlsf_base.specs.Range.{end_of, LiesIn}
@@ -10,7 +10,7 @@ use Rattle.rlsf_model.specs.State.{State}
 use Rattle.rlsf_model.specs.Terms.{with_len}
 use Rattle.rlsf_model.specs.WellFormed.{coverage, itself}
 use Rattle.rlsf_model.proofs.Chunks.{inserted_chunks_lie_in_range}
-use Rattle.rlsf_model.proofs.Coverage.{before, behind, coverage-IsIn, coverage-some, covers-inside, inside, where_is}
+use Rattle.rlsf_model.proofs.Coverage.{coverage-IsIn, coverage-some, covers-inside, where_is}
 
 -- an address of a list's range is in the list
 pub coverage-in : (r : Range) (rs : List Range) (a : ℕ) → IsIn r rs → r.start ≤ a → a < end_of r → 1 ≤ coverage itself rs a
@@ -18,33 +18,18 @@ coverage-in r rs a i low high = omega (arith, covers-inside r a low high, covera
 
 -- an address that no range of a list has
 pub coverage-none : (rs : List Range) (a : ℕ) → ((r : Range) → IsIn r rs → r.start ≤ a → a < end_of r → ⊥) → coverage itself rs a ≡ 0
-coverage-none rs a none = elim (cases_lt 0 (coverage itself rs a)) [
-  | inl some ↦ let (r, i, low, high) = coverage-some itself rs a some in absurd (none r i low high)
-  | inr most ↦ omega arith
-]
+coverage-none rs a none = grind (arith, cases_lt, coverage-some)
 
 -- ---- outstanding ranges
 
 -- one more range that is outstanding
 pub AreOutstanding-more : (space r : Range) (pools : List Range) → AreOutstanding space pools → LiesIn r space.start space.len → IsClear r pools → 64 ≤ r.len
     → AreOutstanding space (r ∷ pools)
-AreOutstanding-more space r pools are lies clear long = record {
-  in_space = λ p. elim [ inl same ↦ subst (λ (q : Range). LiesIn q space.start space.len) (sym same) lies | inr i ↦ are.in_space p i ];
-  long = λ p. elim [ inl same ↦ subst (λ (q : Range). 64 ≤ q.len) (sym same) long | inr i ↦ are.long p i ];
-  disjoint = λ a. elim (where_is r a) [
-    | inside one low high ↦ omega (arith, clear a low high)
-    | before none low ↦ omega (arith, are.disjoint a)
-    | behind none high ↦ omega (arith, are.disjoint a)
-  ];
-}
+AreOutstanding-more space r pools are lies clear long = grind (arith, where_is)
 
 -- one range less
 pub AreOutstanding-rest : (space r : Range) (pools : List Range) → AreOutstanding space (r ∷ pools) → AreOutstanding space pools
-AreOutstanding-rest space r pools are = record {
-  in_space = λ p i. are.in_space p (inr i);
-  long = λ p i. are.long p (inr i);
-  disjoint = λ a. omega (arith, are.disjoint a);
-}
+AreOutstanding-rest space r pools are = grind arith
 
 -- ---- chunks
 

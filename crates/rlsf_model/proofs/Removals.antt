@@ -1,6 +1,7 @@
 -- What a removal leaves.
 use Rattle.std.proofs.Common.{◌≡◌, ◌⊎◌, ℕ, ◌+◌, ◌≤◌, ◌<◌, true, false, not, ◌&&◌, leb, List, true≢false, arith, refl, sym, ◌∙◌, ap, subst}
 use Rattle.std.proofs.Common.{inl, inr}
+use Rattle.std.proofs.lemmas.Bool.Decides.{nat_tests}
 use Rattle.std.proofs.lemmas.Bool.{cases_lt, le-leb, lt-leb}
 use Rattle.rlsf_base.specs.declared.memory.range.Range.{Range}
 use Rattle.rlsf_base.specs.Range.{end_of}
@@ -19,24 +20,14 @@ pub lies_within-le : (r c : Range) → r.start ≤ c.start → end_of c ≤ end_
 lies_within-le r c from to = ap (λ b. b && leb (end_of c) (end_of r)) (le-leb r.start c.start from) ∙ le-leb (end_of c) (end_of r) to
 
 pub lies_within-true : (r c : Range) → lies_within r c ≡ true → (r.start ≤ c.start) × (end_of c ≤ end_of r)
-lies_within-true r c is = elim (cases_lt c.start r.start) [
-  | inl low ↦ absurd (true≢false (sym is ∙ ap (λ b. b && leb (end_of c) (end_of r)) (lt-leb r.start c.start low)))
-  | inr from ↦ elim (cases_lt (end_of r) (end_of c)) [
-    | inl past ↦ absurd (true≢false (sym is ∙ ap (λ b. b && leb (end_of c) (end_of r)) (le-leb r.start c.start from) ∙ lt-leb (end_of c) (end_of r) past))
-    | inr to ↦ (from, to)
-  ]
-]
+lies_within-true r c is = grind (arith, cases_lt, true≢false, lt-leb, le-leb)
 
 -- what is left is of the ranges, and doesn't lie in r
 pub IsIn-outside : (r x : Range) (xs : List Range) → IsIn x (outside_of r xs) → IsIn x xs × (lies_within r x ≡ false)
-IsIn-outside r x xs i =
-    let (j, passes) = IsIn-filter (λ c. not (lies_within r c)) x xs i in
-    (j, by_test (lies_within r x) (λ e. absurd (true≢false (sym passes ∙ ap not e))) (λ e. e))
+IsIn-outside r x xs i = grind (arith, nat_tests, IsIn-filter)
 
 pub IsIn-outside_from : (r x : Range) (xs : List Range) → IsIn x xs → ((r.start ≤ x.start) × (end_of x ≤ end_of r)) ⊎ IsIn x (outside_of r xs)
-IsIn-outside_from r x xs i = by_test (lies_within r x)
-    (λ e. inl (lies_within-true r x e))
-    (λ e. inr (IsIn-filter_from (λ c. not (lies_within r c)) x xs i (ap not e)))
+IsIn-outside_from r x xs i = grind (arith, nat_tests, lies_within-true, IsIn-filter_from)
 
 -- what is taken out has no byte that r doesn't have
 pub coverage-outside : (range : Range → Range) (r : Range) (xs : List Range) (a : ℕ) → ((x : Range) → IsIn x xs → covers (range x) a ≤ covers x a) → covers r a ≡ 0
@@ -102,29 +93,10 @@ module _ {fllen sllen : ℕ} {memory : Range} {s : State} (w : IsWellFormed flle
 
   tiled_after : (a : ℕ) → coverage block_of s.used a + coverage itself (outside_of r s.free) a + coverage last_bytes (outside_of r s.chunks) a
       ≡ coverage itself (outside_of r s.chunks) a
-  tiled_after a =
-      let off : covers r a ≡ 0
-      → coverage block_of s.used a + coverage itself (outside_of r s.free) a + coverage last_bytes (outside_of r s.chunks) a ≡ coverage itself (outside_of r s.chunks) a =
-      λ none. omega (
-        arith,
-        w.tiled a,
-        coverage-outside itself r s.free a (λ x i. omega arith) none,
-        coverage-outside itself r s.chunks a (λ x i. omega arith) none,
-        coverage-outside last_bytes r s.chunks a (λ x i. last_within x a i) none,
-      ) in
-      elim (where_is r a) [
-        | inside one low high ↦ omega
-            (arith, may.idle a low high, free_clear a low high, chunks_clear last_bytes last_within a low high, chunks_clear itself (λ c b i. omega arith) a low high)
-        | before none low ↦ off none
-        | behind none high ↦ off none
-      ]
+  tiled_after a = grind (arith, coverage-outside, last_within, where_is, free_clear, chunks_clear)
 
   disjoint_after : (a : ℕ) → coverage itself (outside_of r s.chunks) a ≤ 1
-  disjoint_after a = elim (where_is r a) [
-    | inside one low high ↦ omega (arith, chunks_clear itself (λ c b i. omega arith) a low high)
-    | before none low ↦ omega (arith, w.disjoint a, coverage-outside itself r s.chunks a (λ x i. omega arith) none)
-    | behind none high ↦ omega (arith, w.disjoint a, coverage-outside itself r s.chunks a (λ x i. omega arith) none)
-  ]
+  disjoint_after a = grind (arith, where_is, chunks_clear, coverage-outside)
 
   -- a removal keeps a state well-formed
   pub Removes-keeps : (t : State) → Removes s r t → IsWellFormed fllen sllen memory t

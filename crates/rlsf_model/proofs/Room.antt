@@ -1,5 +1,5 @@
 -- The laws of free ranges.
-use Rattle.std.proofs.Common.{◌≡◌, ℕ, ◌+◌, ◌-◌, ◌<◌, ◌≤◌, Bool, false, cond, List, [], ◌∷◌, ◌++◌, Some, None, find, true≢false, arith, refl}
+use Rattle.std.proofs.Common.{◌≡◌, ℕ, ◌+◌, ◌-◌, ◌<◌, ◌≤◌, Bool, false, cond, List, [], ◌∷◌, ◌++◌, Some, find, true≢false, arith, refl}
 use Rattle.std.proofs.Common.{sym, ◌∙◌, ap, subst, inl, inr}
 use Rattle.std.proofs.lemmas.Bool.{cases_lt}
 use Rattle.rlsf_base.specs.declared.memory.range.Range.{Range}
@@ -7,7 +7,7 @@ use Rattle.rlsf_base.specs.Range.{end_of}
 use Rattle.rlsf_base.specs.SizeClass.{class_of}
 use Rattle.rlsf_base.specs.Sizes.{request_size}
 use Rattle.rlsf_base.proofs.SizeClasses.Reach.{Reaches-from_slack}
-use Rattle.rlsf_model.specs.Allocate.{choice, has_class, Allocates}
+use Rattle.rlsf_model.specs.Allocate.{choice, has_class}
 use Rattle.rlsf_model.specs.Insert.{body}
 use Rattle.rlsf_model.specs.Laws.{RoomIsFound, AllocationAnswers, RefusedWithoutReach, ChoiceIsFirstOfLeast, IdleChunkIsOneRange}
 use Rattle.rlsf_model.specs.Lists.{IsIn, without}
@@ -20,9 +20,7 @@ use Rattle.rlsf_model.proofs.Examples.{address, allocate_after, allocate_step}
 use Rattle.rlsf_model.proofs.Tiling.{tiling_of, free-le, lies_in_chunk, IsPart-free}
 
 pub room_is_found : RoomIsFound
-room_is_found fllen sllen memory s t size align reply f w i slack step is =
-    let refused : Allocates sllen s size align None t = subst (λ r. Allocates sllen s size align r t) is step in
-    choice-none sllen (request_size size align) s.free refused.0 f i (Reaches-from_slack sllen f.len (w.free f i).some (request_size size align) slack)
+room_is_found fllen sllen memory s t size align reply f w i slack step is = grind (arith, choice-none, Reaches-from_slack)
 
 pub refused_without_reach : RefusedWithoutReach
 refused_without_reach sllen size free = (choice-none sllen size free, choice-from_none sllen size free)

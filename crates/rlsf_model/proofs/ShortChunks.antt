@@ -310,12 +310,7 @@ payload_pool_is_exact fl_bits sl_bits fllen sllen live most least memory s c val
 
 -- for a layout with an alignment of 16 or less the size itself is asked for where the longest block is sought
 layout_is_asked : (size align : ℕ) → align ≤ 16 → AreAsked (request_size size align) size (λ len. size - (size - (len - 16)))
-layout_is_asked size align small =
-    let most : request_size size align ≡ round32 (size + 16) = let sum : size + (align - 16) + 16 ≡ size + 16 = omega arith in ap round32 sum in
-    record { seeks = λ len is fits. seeks len (request_size size align) most is.0 is.1 fits; small = λ len is fits. omega arith }
-  where
-    seeks : (len most : ℕ) → most ≡ round32 (size + 16) → 0 < len → len % 32 ≡ 0 → len ≤ most → round32 (size - (size - (len - 16)) + 16) ≡ len
-    seeks len most is some whole fits = omega (arith, is)
+layout_is_asked size align small = grind arith
 
 -- what is modest is a run
 runs_of : (live most fllen sllen : ℕ) (memory : Range) (es : List Event) (s t : State) → RunsModestly live most fllen sllen memory s es t → Runs fllen sllen memory s es t

@@ -183,9 +183,7 @@ pub record AreAsked (most size : ℕ) (asks : ℕ → ℕ) : Type 0 where
   pub small : (len : ℕ) → IsSize len → len ≤ most → asks len ≤ size
 
 pub asked : (z len : ℕ) → round32 (z + 16) ≡ len → request_size z 1 ≡ len
-asked z len seeks =
-    let sum : z + (1 - 16) + 16 ≡ z + 16 = omega arith in
-    ap round32 sum ∙ seeks
+asked z len seeks = grind arith
 
 -- a used block of so many bytes, with its payload 16 bytes behind its start
 pub record IsPlain (from len : ℕ) (u : Used) : Type 0 where

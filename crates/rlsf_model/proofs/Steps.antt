@@ -1,5 +1,5 @@
 -- Each step and each run keeps a state well-formed.
-use Rattle.std.proofs.Common.{ℕ, List, [], ◌∷◌, length, arith, refl, sym, ◌∙◌, ap, subst, inl, inr}
+use Rattle.std.proofs.Common.{ℕ, List, [], ◌∷◌, length, arith, sym, ◌∙◌, ap, subst, inl, inr}
 use Rattle.rlsf_base.specs.declared.memory.range.Range.{Range}
 use Rattle.rlsf_model.specs.Laws.{EmptyIsWellFormed, StepsKeepWellFormed, RunsKeepWellFormed}
 use Rattle.rlsf_model.specs.Lists.{IsIn}
@@ -16,17 +16,7 @@ use Rattle.rlsf_model.proofs.Releases.{Deallocates-keeps}
 use Rattle.rlsf_model.proofs.Removals.{Removes-keeps}
 
 pub empty_is_well_formed : EmptyIsWellFormed
-empty_is_well_formed fllen sllen memory rows row_length addressable = record {
-  rows = rows;
-  row_length = row_length;
-  addressable = addressable;
-  chunks = λ c h. absurd h;
-  used = λ u h. absurd h;
-  free = λ f h. absurd h;
-  disjoint = λ a. omega arith;
-  tiled = λ a. refl;
-  apart = λ f g h. absurd h;
-}
+empty_is_well_formed fllen sllen memory rows row_length addressable = grind arith
 
 -- other bytes in a payload keep a state well-formed
 pub Fills-keeps : {fllen sllen : ℕ} {memory : Range} {s : State} → IsWellFormed fllen sllen memory s → (addr : ℕ) (bytes : List ℕ) (t : State) → Fills s addr bytes t

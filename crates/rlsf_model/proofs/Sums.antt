@@ -46,11 +46,7 @@ total-zero (suc n) = omega (arith, total-zero n)
 -- how many addresses below n a range has
 total-covers : (n : ℕ) (r : Range) → total n (covers r) ≡ (n - r.start) - (n - end_of r)
 total-covers zero r = omega arith
-total-covers (suc n) r = let rest = total-covers n r in elim (where_is r n) [
-  | inside one low high ↦ omega arith
-  | before none low ↦ omega arith
-  | behind none high ↦ omega arith
-]
+total-covers (suc n) r = grind (arith, total-covers n r, where_is)
 
 module _ {A : Type 0} (range : A → Range) where
   -- below an address past all of them, ranges have as many addresses as they are long together
@@ -174,13 +170,7 @@ module _ {fllen sllen : ℕ} {memory : Range} {s : State} (w : IsWellFormed flle
       ]
 
   ends-few : (a : ℕ) → coverage past s.free a ≤ coverage first s.used a + coverage last s.chunks a
-  ends-few a = elim (cases_lt 0 (coverage past s.free a)) [
-    | inl some ↦
-        let (f, i, low, high) = coverage-some past s.free a some in
-        let at : end_of f ≡ a = omega arith in
-        omega (arith, ends-le a, subst (λ b. 1 ≤ coverage first s.used b + coverage last s.chunks b) at (ends_at_start f i))
-    | inr none ↦ omega arith
-  ]
+  ends-few a = grind (arith, cases_lt, coverage-some, ends-le, ends_at_start)
 
 pub few_free : FewFree
 few_free fllen sllen memory s w =

@@ -1,5 +1,5 @@
 -- An inserted range, complete except for some bytes at its ends, makes the awaited allocation succeed.
-use Rattle.std.proofs.Common.{◌≡◌, ℕ, zero, suc, ◌+◌, ◌-◌, ◌*◌, ◌/◌, ◌%◌, ◌<◌, ◌≤◌, List, Option, Some, None, find, true≢false, arith, refl}
+use Rattle.std.proofs.Common.{◌≡◌, ℕ, ◌+◌, ◌-◌, ◌*◌, ◌/◌, ◌%◌, ◌<◌, ◌≤◌, List, Option, Some, None, find, true≢false, arith, refl}
 use Rattle.std.proofs.Common.{sym, ◌∙◌, ap, subst, inl, inr}
 use Rattle.std.proofs.lemmas.Bool.{cases_lt, eq-eqb, eqb-true}
 use Rattle.std.proofs.lemmas.Option.{none-some, same_Some}
@@ -76,9 +76,7 @@ record IsPartOf (e : ℕ) (r part : Range) : Type 0 where
   long : e ≤ part.len
 
 IsPartOf-aligned_part : (e : ℕ) (r : Range) → 64 ≤ e → e % 32 ≡ 0 → HasAlignedPart r e → IsPartOf e r (aligned_part r)
-IsPartOf-aligned_part e r room whole has =
-    let long : e ≤ (aligned_part r).len = elim has [ inl spare ↦ omega arith | inr (begins, enough) ↦ omega arith ] in
-    record { from = omega arith; to = omega arith; nearly = omega arith; long = long }
+IsPartOf-aligned_part e r room whole has = grind arith
 
 cut_pool : (e end : ℕ) (s : State) (r part : Range) (cs : List Range) → IsPartOf e r part → AreCutFrom e part end cs
     → IsTaken s r (end - r.start) (with_chunks cs s) × HasFreePool e (with_chunks cs s)
@@ -167,8 +165,7 @@ module _ {fllen sllen : ℕ} {memory : Range} {s : State} (w : IsWellFormed flle
       grown_pool d is_in (eqb-true (end_of d) r.start passes)
 
 extended-some : (at n : ℕ) (s : State) → 0 < n → extended at n s ≡ grown_if (find (ends_at at) s.chunks) n s
-extended-some at zero s some = absurd (omega arith)
-extended-some at (suc n) s some = refl
+extended-some at n' s some = grind arith
 
 -- a range that is appended is taken, and has a pool
 pub appended_pool : (fllen sllen e : ℕ) (memory : Range) (s t : State) (r : Range) (n : ℕ) → IsWellFormed fllen sllen memory s → IsNext memory s r → 64 ≤ e

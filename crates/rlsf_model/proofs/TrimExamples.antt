@@ -1,25 +1,25 @@
 -- The reference model over a source with trims: its replies and the ranges that it returns, computed, and that they are a run.
 use Rattle.std.proofs.Common.{◌≡◌, ℕ, ◌+◌, ◌-◌, ◌<◌, ◌≤◌, Bool, true, false, ◌&&◌, ◌||◌, cond, leb, eqb, length, map, max, List, [], ◌∷◌}
-use Rattle.std.proofs.Common.{◌++◌, Option, Some, None, find, take, drop, true≢false, arith, refl, sym, ◌∙◌, ap, subst, inl, inr}
+use Rattle.std.proofs.Common.{◌++◌, Option, Some, None, find, take, drop, true≢false, arith, refl, sym}
+use Rattle.std.proofs.lemmas.Bool.Decides.{nat_tests}
 use Rattle.std.specs.Option.{is_some}
 use Rattle.std.proofs.lemmas.Bool.{and_parts, eqb-true, leb-true}
 use Rattle.std.proofs.lemmas.List.{take-append-drop}
 use Rattle.rlsf_base.specs.declared.memory.range.Range.{Range}
 use Rattle.rlsf_base.specs.Range.{end_of}
-use Rattle.rlsf_model.specs.FlexRun.{FlexEvent, FlexLeads}
+use Rattle.rlsf_model.specs.FlexRun.{FlexEvent, FlexLeads, FlexMayCall}
 use Rattle.rlsf_model.specs.FlexState.{FlexState, KeptPool, with_machine}
 use Rattle.rlsf_model.specs.Lists.{IsIn}
 use Rattle.rlsf_model.specs.Note.{dealloc}
 use Rattle.rlsf_model.specs.Release.{released}
 use Rattle.rlsf_model.specs.Remove.{IsIdle, lies_within}
-use Rattle.rlsf_model.specs.Run.{allocate, deallocate, trim}
+use Rattle.rlsf_model.specs.Run.{deallocate, trim}
 use Rattle.rlsf_model.specs.State.{State, Used}
 use Rattle.rlsf_model.specs.Terms.{Terms}
 use Rattle.rlsf_model.specs.Trim.{all_removed, IsKeptToLast, IsNewestHeld}
-use Rattle.rlsf_model.specs.WellFormed.{covers, coverage}
-use Rattle.rlsf_model.proofs.Coverage.{by_test, find-some, covers-before, covers-behind, covers-inside}
-use Rattle.rlsf_model.proofs.FlexExamples.{Attempt, AreAnswers, AreAnswers-from, FlexAllocates-so, are_answers, after, asked, done, is_power_of_two, may_attempt, may_come, ready}
-use Rattle.rlsf_model.proofs.FlexExamples.{room}
+use Rattle.rlsf_model.specs.WellFormed.{coverage}
+use Rattle.rlsf_model.proofs.Coverage.{find-some, covers-before, covers-behind, covers-inside}
+use Rattle.rlsf_model.proofs.FlexExamples.{Attempt, AreAnswers, AreAnswers-from, FlexAllocates-so, after, done, may_attempt}
 use Rattle.rlsf_model.proofs.Removals.{lies_within-le, lies_within-true}
 use Rattle.rlsf_model.proofs.Tiling.{block_of}
 
@@ -32,7 +32,8 @@ pub data Move : Type 0 where
 -- calls one after another, and the answers of a source that keeps to its terms, lead from one state to another
 abbrev pub RunsWith : ℕ → ℕ → Terms → FlexState → List FlexEvent → FlexState → Type 0
 RunsWith fllen sllen t s [] u = u ≡ s
-RunsWith fllen sllen t s (c ∷ cs) u = (m : FlexState) × AreAnswers t s.pools c.notes × FlexLeads fllen sllen t s c.event c.notes m × RunsWith fllen sllen t m cs u
+RunsWith fllen sllen t s (c ∷ cs) u =
+    (m : FlexState) × FlexMayCall t.space s.machine c.event × AreAnswers t s.pools c.notes × FlexLeads fllen sllen t s c.event c.notes m × RunsWith fllen sllen t m cs u
 
 -- ---- what a trim returns and keeps
 
@@ -100,7 +101,7 @@ moved_to fllen sllen t s (gives_back n) = trimmed n s
 
 -- a call with its reply and notes
 abbrev pub moved_by : ℕ → ℕ → Terms → FlexState → Move → FlexEvent
-moved_by fllen sllen t s (allocates a) = record { event = allocate a.size a.align (done fllen sllen t s a).reply; notes = (done fllen sllen t s a).notes }
+moved_by fllen sllen t s (allocates a) = done fllen sllen t s a
 moved_by fllen sllen t s (frees addr) = record { event = deallocate addr; notes = [] }
 moved_by fllen sllen t s (gives_back n) = record { event = trim n; notes = map dealloc (take n s.pools) }
 
@@ -134,18 +135,11 @@ or_parts false b e first second = second e
 
 is_idle-from : (r : Range) (used : List Used) → is_idle r used ≡ true → (a : ℕ) → r.start ≤ a → a < end_of r → coverage block_of used a ≡ 0
 is_idle-from r [] e a low high = refl
-is_idle-from r (u ∷ used) e a low high =
-    let (off, rest) = and_parts (leb (end_of u.block) r.start || leb (end_of r) u.block.start) (is_idle r used) e in
-    let none : covers u.block a ≡ 0 = or_parts (leb (end_of u.block) r.start) (leb (end_of r) u.block.start) off
-    (λ f. covers-behind u.block a (omega (arith, leb-true (end_of u.block) r.start f)))
-    (λ f. covers-before u.block a (omega (arith, leb-true (end_of r) u.block.start f))) in
-    omega (arith, none, is_idle-from r used rest a low high)
+is_idle-from r (u ∷ used) e a low high = grind (arith, nat_tests, is_idle-from r used, and_parts, or_parts, covers-behind, covers-before)
 
 are_idle-from : (s : State) (ranges : List Range) → are_idle ranges s.used ≡ true → (r : Range) → IsIn r ranges → IsIdle s r
 are_idle-from s [] e r i = absurd i
-are_idle-from s (q ∷ ranges) e r i =
-    let (first, rest) = and_parts (is_idle q s.used) (are_idle ranges s.used) e in
-    elim i [ inl same ↦ subst (IsIdle s) (sym same) (is_idle-from q s.used first) | inr j ↦ are_idle-from s ranges rest r j ]
+are_idle-from s (q ∷ ranges) e r i = grind (arith, are_idle-from s ranges, and_parts, is_idle-from)
 
 is_held-from : (r : Range) (used : List Used) → is_held r used ≡ true → (a : ℕ) × (r.start ≤ a) × (a < end_of r) × (1 ≤ coverage block_of used a)
 is_held-from r [] e = absurd (true≢false (sym e))
@@ -158,37 +152,19 @@ is_held-from r (u ∷ used) e = or_parts (leb r.start u.block.start && (leb (u.b
     (λ f. let (a, low, high, some) = is_held-from r used f in (a, low, high, omega arith))
 
 is_newest_held-from : (s : State) (ranges : List Range) → is_newest_held ranges s.used ≡ true → IsNewestHeld s ranges
-is_newest_held-from s [] e = tt
-is_newest_held-from s (r ∷ ranges) e = λ idle. let (a, low, high, some) = is_held-from r s.used e in omega (arith, idle a low high)
+is_newest_held-from s l e = grind (arith, is_held-from)
 
 last_end-le : (r : Range) (cs : List Range) (c : Range) → IsIn c cs → r.start ≤ c.start → end_of c ≤ end_of r → end_of c ≤ last_end r cs
 last_end-le r [] c i low high = absurd i
-last_end-le r (d ∷ cs) c i low high = by_test (lies_within r d)
-    (λ e. let is : last_end r (d ∷ cs) ≡ max (end_of d) (last_end r cs) = ap (λ b. cond b (max (end_of d) (last_end r cs)) (last_end r cs)) e in
-    elim i [
-      | inl same ↦ let end : end_of c ≡ end_of d = ap end_of {x = c} same in omega arith
-      | inr j ↦ omega (arith, last_end-le r cs c j low high)
-    ])
-    (λ e. let is : last_end r (d ∷ cs) ≡ last_end r cs = ap (λ b. cond b (max (end_of d) (last_end r cs)) (last_end r cs)) e in
-    elim i [
-      | inl same ↦ absurd (true≢false (sym (lies_within-le r c low high) ∙ ap (lies_within r) same ∙ e))
-      | inr j ↦ omega (arith, last_end-le r cs c j low high)
-    ])
+last_end-le r (d ∷ cs) c i low high = grind (arith, nat_tests, last_end-le r cs c, lies_within-le)
 
 ends_in-from : (r : Range) (a : ℕ) (cs : List Range) → ends_in r a cs ≡ true
     → (c : Range) × IsIn c cs × (r.start ≤ c.start) × (end_of c ≤ end_of r) × (end_of c ≡ a)
 ends_in-from r a [] e = absurd (true≢false (sym e))
-ends_in-from r a (c ∷ cs) e = or_parts (lies_within r c && eqb (end_of c) a) (ends_in r a cs) e
-    (λ f. let (lies, at) = and_parts (lies_within r c) (eqb (end_of c) a) f in let (low, high) = lies_within-true r c lies in (c, inl refl, low, high, eqb-true (end_of c) a at))
-    (λ f. let (d, i, low, high, at) = ends_in-from r a cs f in (d, inr i, low, high, at))
+ends_in-from r a (c ∷ cs) e = grind (arith, nat_tests, ends_in-from r a cs, or_parts, and_parts, lies_within-true)
 
 has_last-from : (chunks ranges : List Range) → has_last chunks ranges ≡ true → IsKeptToLast chunks ranges (kept_of chunks ranges)
-has_last-from chunks [] e = refl
-has_last-from chunks (r ∷ ranges) e =
-    let (from, ends) = and_parts (leb r.start (last_end r chunks)) (ends_in r (last_end r chunks) chunks) e in
-    let begins = leb-true r.start (last_end r chunks) from in
-    let (c, i, low, high, at) = ends_in-from r (last_end r chunks) chunks ends in
-    (last_end r chunks - r.start, record { last = (c, i, low, high, omega arith); none_later = λ d j d_low d_high. omega (arith, last_end-le r chunks d j d_low d_high) }, refl)
+has_last-from chunks l e = grind (arith, and_parts, leb-true, ends_in-from, last_end-le)
 
 split_at : (n : ℕ) (xs : List Range) → xs ≡ take n xs ++ drop n xs
 split_at n xs = sym (take-append-drop n xs)
@@ -205,51 +181,17 @@ module _ (fllen sllen : ℕ) (t : Terms) (s : FlexState) where
       record { machine = released s.machine u; leads = record { block = u; holds = (is.0, eqb-true u.payload addr is.1); after = refl }; none = refl; after = refl }
 
   trim_leads : (n : ℕ) → may_move fllen sllen t s (gives_back n) ≡ true → FlexLeads fllen sllen t s (trim n) (map dealloc (take n s.pools)) (trimmed n s)
-  trim_leads n e =
-      let m = all_removed (take n s.pools) s.machine in
-      let counted = eqb n (length (take n s.pools)) in
-      let idle = are_idle (take n s.pools) s.machine.used in
-      let held = is_newest_held (drop n s.pools) s.machine.used in
-      let last = has_last m.chunks (drop n s.pools) in
-      let (takes, one) = and_parts t.dealloc (counted && (idle && (held && last))) e in
-      let (counted_is, two) = and_parts counted (idle && (held && last)) one in
-      let (idle_is, three) = and_parts idle (held && last) two in
-      let (held_is, last_is) = and_parts held last three in
-      inl (
-        takes,
-        record {
-          gone = take n s.pools;
-          left = drop n s.pools;
-          split = split_at n s.pools;
-          idle = are_idle-from s.machine (take n s.pools) idle_is;
-          held = is_newest_held-from s.machine (drop n s.pools) held_is;
-          counted = eqb-true n (length (take n s.pools)) counted_is;
-          noted = refl;
-          machine = refl;
-          pools = refl;
-          kept = has_last-from m.chunks (drop n s.pools) last_is;
-        },
-      )
+  trim_leads n e = grind (arith, and_parts, split_at, are_idle-from, is_newest_held-from, eqb-true, has_last-from)
 
   move_leads : (m : Move) → may_move fllen sllen t s m ≡ true
-      → AreAnswers t s.pools (moved_by fllen sllen t s m).notes
+      → FlexMayCall t.space s.machine (moved_by fllen sllen t s m).event × AreAnswers t s.pools (moved_by fllen sllen t s m).notes
       × FlexLeads fllen sllen t s (moved_by fllen sllen t s m).event (moved_by fllen sllen t s m).notes (moved_to fllen sllen t s m)
-  move_leads (allocates a) e =
-      let first = room sllen s a.size a.align in
-      let second = room sllen (ready fllen sllen t s a) a.size a.align in
-      let come = may_come fllen (asked fllen sllen t s a.size a.align) s a.outcome first second in
-      let answers = are_answers t s.pools (done fllen sllen t s a).notes in
-      let (power, more) = and_parts (is_power_of_two a.align) (answers && come) e in
-      let (kept, came) = and_parts answers come more in
-      (AreAnswers-from t s.pools (done fllen sllen t s a).notes kept, FlexAllocates-so fllen sllen t s a.size a.align a.outcome first second refl refl came)
-  move_leads (frees addr) e = (tt, free_leads addr (block_at s addr) refl e)
-  move_leads (gives_back n) e = (gone_answers t s.pools (take n s.pools), trim_leads n e)
+  move_leads (allocates a) e = grind (arith, and_parts, eqb-true, AreAnswers-from, FlexAllocates-so)
+  move_leads (frees addr) e = let leads = free_leads addr (block_at s addr) refl e in ((leads.leads.block, leads.leads.holds), tt, leads)
+  move_leads (gives_back n) e = (tt, gone_answers t s.pools (take n s.pools), trim_leads n e)
 
 -- calls that may be are a run
 pub RunsWith-all : (fllen sllen : ℕ) (t : Terms) (s : FlexState) (moves : List Move) → may_move_all fllen sllen t s moves ≡ true
     → RunsWith fllen sllen t s (all_moved_by fllen sllen t s moves) (all_moved_to fllen sllen t s moves)
 RunsWith-all fllen sllen t s [] e = refl
-RunsWith-all fllen sllen t s (m ∷ ms) e =
-    let (here, rest) = and_parts (may_move fllen sllen t s m) (may_move_all fllen sllen t (moved_to fllen sllen t s m) ms) e in
-    let (answers, leads) = move_leads fllen sllen t s m here in
-    (moved_to fllen sllen t s m, answers, leads, RunsWith-all fllen sllen t (moved_to fllen sllen t s m) ms rest)
+RunsWith-all fllen sllen t s (m ∷ ms) e = grind (arith, RunsWith-all fllen sllen t (moved_to fllen sllen t s m) ms, and_parts, move_leads)

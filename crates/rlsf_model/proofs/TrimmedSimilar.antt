@@ -1,5 +1,5 @@
 -- From similar states a trim gives the same ranges back, and leads to similar states.
-use Rattle.std.proofs.Common.{◌≡◌, ℕ, not, true≢false, length, map, List, [], ◌∷◌, ◌++◌, Option, Some, arith, refl, sym, ◌∙◌, ap, subst, inl, inr}
+use Rattle.std.proofs.Common.{◌≡◌, ℕ, not, true≢false, length, map, List, [], ◌∷◌, ◌++◌, Option, arith, refl, sym, ◌∙◌, ap, subst, inl, inr}
 use Rattle.rlsf_base.specs.declared.memory.range.Range.{Range}
 use Rattle.rlsf_model.specs.FlexState.{AreFlexSimilar, FlexState, KeptPool}
 use Rattle.rlsf_model.specs.Lists.{IsIn}
@@ -33,12 +33,7 @@ gone-same {s} r [] left (q ∷ gone') left' e idle idle' held held' =
     absurd (subst (IsNewestHeld s) e held (idle-similar (AreSimilar-sym r) q (idle' q (inl refl))))
 gone-same {s' = s'} r (q ∷ gone) left [] left' e idle idle' held held' =
     absurd (subst (IsNewestHeld s') (sym e) held' (idle-similar r q (idle q (inl refl))))
-gone-same r (q ∷ gone) left (q' ∷ gone') left' e idle idle' held held' =
-    let first : q ≡ q' = cc in
-    let others : gone ++ left ≡ gone' ++ left' = cc in
-    let rest = gone-same r gone left gone' left' others (λ x i. idle x (inr i)) (λ x i. idle' x (inr i)) held held' in
-    let both : q ∷ gone ≡ q' ∷ gone' = let more = rest.0 in cc in
-    (both, rest.1)
+gone-same r (q ∷ gone) left (q' ∷ gone') left' e idle idle' held held' = grind (arith, gone-same r gone left gone' left')
 
 all_removed-similar : (gone : List Range) (s s' : State) → AreSimilar s s' → AreSimilar (all_removed gone s) (all_removed gone s')
 all_removed-similar [] s s' r = r
@@ -50,9 +45,7 @@ all_removed-similar (q ∷ gone) s s' r = all_removed-similar gone (removed q s)
 
 -- the same is kept
 kept-same : (cs ds : List Range) → HasSame cs ds → (left : List Range) (k k' : Option KeptPool) → IsKeptToLast cs left k → IsKeptToLast ds left k' → k ≡ k'
-kept-same cs ds same [] k k' a b = a ∙ sym b
-kept-same cs ds same (r ∷ left) k k' (m, ends, is) (n, ends', is') =
-    is ∙ ap (λ len. Some (let x : KeptPool = record { range = r; len = len } in x)) (EndsLast-same cs ds r m n (λ c. (same c).0) (λ c. (same c).1) ends ends') ∙ sym is'
+kept-same cs ds same l k k' a b = grind (arith, EndsLast-same)
 
 pub trims-similar : (t : Terms) (s s' u u' : FlexState) (m n : ℕ) (notes notes' : List Note) → AreFlexSimilar s s' → Trims t s m notes u → Trims t s' n notes' u'
     → (m ≡ n) × (notes ≡ notes') × AreFlexSimilar u u'

@@ -131,10 +131,7 @@ EndsLast-pool {s = s} w r len is =
 -- with the same chunks, the last ends at one address
 pub EndsLast-same : (cs ds : List Range) (r : Range) (m n : ℕ) → ((c : Range) → IsIn c cs → IsIn c ds) → ((c : Range) → IsIn c ds → IsIn c cs) → EndsLast cs r m
     → EndsLast ds r n → m ≡ n
-EndsLast-same cs ds r m n to from a b =
-    let (c, i, low, high, ends) = a.last in
-    let (d, j, low', high', ends') = b.last in
-    omega (arith, a.none_later d (from d j) low' high', b.none_later c (to c i) low high)
+EndsLast-same cs ds r m n to from a b = grind arith
 
 -- ---- a trim over a source
 
@@ -184,8 +181,7 @@ module _ {fllen sllen : ℕ} {memory : Range} {t : Terms} {s : FlexState} (w : I
 
 -- a trim leaves the used blocks
 pub used-trimmed : (t : Terms) (s u : FlexState) (count : ℕ) (notes : List Note) → Trims t s count notes u → u.machine.used ≡ s.machine.used
-used-trimmed t s u count notes (inl (takes, g)) = ap (λ (m : State). m.used) g.machine ∙ used-all_removed g.gone s.machine
-used-trimmed t s u count notes (inr (_, _, _, same)) = ap (λ (x : FlexState). x.machine.used) same
+used-trimmed t s u count notes h = grind (arith, used-all_removed)
 
 -- ---- each trim has a reply
 

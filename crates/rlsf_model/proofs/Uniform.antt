@@ -7,7 +7,7 @@ use Rattle.std.proofs.lemmas.List.Sums.{sum_by-cons}
 use Rattle.std.proofs.lemmas.Nat.{div-mul-add, le-div}
 use Rattle.std.proofs.Math.Nat.{mul-le-mul_right}
 use Rattle.rlsf_base.specs.declared.memory.range.Range.{Range}
-use Rattle.rlsf_base.specs.PowerOfTwo.{IsPowerOfTwo, floor_log2}
+use Rattle.rlsf_base.specs.PowerOfTwo.{IsPowerOfTwo}
 use Rattle.rlsf_base.specs.Range.{end_of}
 use Rattle.rlsf_base.specs.SizeClass.{class_of, Reaches}
 use Rattle.rlsf_base.specs.Sizes.{request_size}
@@ -132,18 +132,11 @@ uniform_is_full fllen sllen memory s t c size align reply w is begins step =
 
 -- at an alignment of 32 or less a block is as long as what is sought
 block_length-pow : (k b size : ℕ) → k ≤ 5 → b % 32 ≡ 0 → block_length b (payload_of b (2 ^ k)) size ≡ request_size size (2 ^ k)
-block_length-pow zero b size few whole = omega arith
-block_length-pow (suc zero) b size few whole = omega arith
-block_length-pow (suc (suc zero)) b size few whole = omega arith
-block_length-pow (suc (suc (suc zero))) b size few whole = omega arith
-block_length-pow (suc (suc (suc (suc zero)))) b size few whole = omega arith
-block_length-pow (suc (suc (suc (suc (suc zero))))) b size few whole = omega arith
 block_length-pow (suc (suc (suc (suc (suc (suc k)))))) b size few whole = absurd (omega arith)
+block_length-pow n b size few whole = omega arith
 
 block_length-exact : (b size align : ℕ) → b % 32 ≡ 0 → IsPowerOfTwo align → align ≤ 32 → block_length b (payload_of b align) size ≡ request_size size align
-block_length-exact b size align whole power small =
-    subst (λ n. block_length b (payload_of b n) size ≡ request_size size n) (sym power)
-    (block_length-pow (floor_log2 align) b size (floor_log2-mono align 32 (IsPowerOfTwo-positive align power) small) whole)
+block_length-exact b size align whole power small = grind (arith, block_length-pow, floor_log2-mono, IsPowerOfTwo-positive)
 
 pub allocation_keeps_uniform : AllocationKeepsUniform
 allocation_keeps_uniform fllen sllen memory s t c size align None w power small is step = subst (IsUniform (request_size size align) c) (sym step.1) is
@@ -190,12 +183,9 @@ deallocation_keeps_uniform len s t c addr is step =
 
 step_uniform : (len fllen sllen : ℕ) (memory : Range) (s t : State) (c : Range) (e : Event) → IsWellFormed fllen sllen memory s → IsUniform len c s → MayCall memory s e
     → AsksUniformly len e → Leads fllen sllen s e t → IsUniform len c t
-step_uniform len fllen sllen memory s t c (insert r reply) w is may asks step = absurd asks
-step_uniform len fllen sllen memory s t c (append r reply) w is may asks step = absurd asks
 step_uniform len fllen sllen memory s t c (allocate size align reply) w is may (same, small) step =
     subst (λ n. IsUniform n c t) same (allocation_keeps_uniform fllen sllen memory s t c size align reply w may small (subst (λ n. IsUniform n c s) (sym same) is) step)
 step_uniform len fllen sllen memory s t c (deallocate addr) w is may asks step = deallocation_keeps_uniform len s t c addr is step
-step_uniform len fllen sllen memory s t c (reallocate addr size reply) w is may asks step = absurd asks
 step_uniform len fllen sllen memory s t c (fill addr bytes) w is may asks step =
     subst (IsUniform len c) (sym step.after) (record {
       chunks = is.chunks;
@@ -204,8 +194,7 @@ step_uniform len fllen sllen memory s t c (fill addr bytes) w is may asks step =
           subst (λ b. (b.len ≡ len) × IsTimes c.start len b.start) (sym (ap (λ h. h.block) same)) (is.used u j);
       free = is.free;
     })
-step_uniform len fllen sllen memory s t c (remove r) w is may asks step = absurd asks
-step_uniform len fllen sllen memory s t c (trim n) w is may asks step = absurd asks
+step_uniform len fllen sllen memory s t c e w is may asks step = absurd asks
 
 pub runs_keep_uniform : RunsKeepUniform
 runs_keep_uniform len fllen sllen memory s t c [] w is run asks = subst (IsUniform len c) (sym run) is
@@ -238,16 +227,12 @@ allocation_answers {fllen} {sllen} {memory} s t c size align reply w is begins s
 event_answers : (len : ℕ) {fllen sllen : ℕ} {memory : Range} (s t : State) (c : Range) (e : Event) → IsWellFormed fllen sllen memory s → IsUniform len c s
     → Reaches sllen (class_of sllen len) len
     → AsksUniformly len e → Leads fllen sllen s e t → IsDeniedOnlyAt (blocks_in len c) (length s.used) e
-event_answers len s t c (insert r reply) w is begins asks step = tt
-event_answers len s t c (append r reply) w is begins asks step = tt
 event_answers len {sllen = sllen} s t c (allocate size align reply) w is begins (same, small) step =
     subst (λ n. (reply ≡ None) ↔ (length s.used ≡ blocks_in n c)) same
     (allocation_answers s t c size align reply w (subst (λ n. IsUniform n c s) (sym same) is) (subst (λ n. Reaches sllen (class_of sllen n) n) (sym same) begins) step)
-event_answers len s t c (deallocate addr) w is begins asks step = tt
-event_answers len s t c (reallocate addr size reply) w is begins asks step = tt
-event_answers len s t c (fill addr bytes) w is begins asks step = tt
 event_answers len s t c (remove r) w is begins asks step = absurd asks
 event_answers len s t c (trim n) w is begins asks step = absurd asks
+event_answers len s t c e w is begins asks step = tt
 
 pub uniform_runs_answer : UniformRunsAnswer
 uniform_runs_answer len fllen sllen memory s t c [] w is some begins run asks = tt

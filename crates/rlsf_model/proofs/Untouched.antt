@@ -3,7 +3,7 @@ use Rattle.std.proofs.Common.{◌≡◌, ℕ, ◌+◌, List, [], ◌∷◌, Opti
 use Rattle.std.proofs.lemmas.Bool.{cases_lt}
 use Rattle.rlsf_base.specs.declared.memory.range.Range.{Range}
 use Rattle.rlsf_base.proofs.Numbers.Roundings.{round32-le}
-use Rattle.rlsf_base.specs.Range.{AreApart, LiesIn, end_of}
+use Rattle.rlsf_base.specs.Range.{AreApart, LiesIn}
 use Rattle.rlsf_base.specs.Sizes.{max_pool_size}
 use Rattle.rlsf_model.specs.Insert.{Inserts, IsFresh, IsUntouched, aligned_part, cut, with_chunk, with_chunks}
 use Rattle.rlsf_model.specs.State.{State, empty}
@@ -33,13 +33,7 @@ coverage-with_chunks (c ∷ cs) s a = omega (arith, coverage-with_chunks cs (wit
 
 -- an aligned part has no address that its range doesn't have
 covers-aligned : (r : Range) (a : ℕ) → covers r a ≡ 0 → covers (aligned_part r) a ≡ 0
-covers-aligned r a none = elim (cases_lt a (aligned_part r).start) [
-  | inl low ↦ covers-before (aligned_part r) a low
-  | inr high ↦ elim (cases_lt a (end_of (aligned_part r))) [
-    | inr behind ↦ covers-behind (aligned_part r) a behind
-    | inl inside ↦ absurd (omega (arith, covers-inside r a (omega (arith, high, round32-le r.start)) (omega (arith, high, inside)), none))
-  ]
-]
+covers-aligned r a none = grind (arith, cases_lt, covers-before, covers-behind, covers-inside, round32-le)
 
 -- a range that an insert's doesn't overlap stays untouched
 pub untouched_inserted : (fllen : ℕ) (s t : State) (r : Range) (reply : Option ℕ) → Inserts fllen s r reply t → (q : Range) → IsUntouched s.chunks q → AreApart r q

@@ -19,7 +19,7 @@ use Rattle.rlsf_model.proofs.Live.{live_addresses_are_aligned, payloads_are_disj
 use Rattle.rlsf_model_global.specs.Heap.{Agrees, Heap, Lists, content_at, layout_at, row_layout}
 use Rattle.rlsf_model_global.specs.Left.{AllocationLeaves, DeallocationLeaves, HasByte, HeapPayloadsAreApart, PayloadsServe, ReadTells, WriteLeaves}
 use Rattle.rlsf_model_global.specs.Rows.{Row, put, row_at}
-use Rattle.rlsf_model_global.specs.Steps.{DeallocatesAt, DeallocatesAsAt, Done, ReadsAt, Releases, WritesAt, WritesIn, are_usable, is_same}
+use Rattle.rlsf_model_global.specs.Steps.{DeallocatesAt, DeallocatesAsAt, ReadsAt, Releases, WritesAt, WritesIn, are_usable, is_same}
 use Rattle.rlsf_model_global.specs.declared.error.GlobalError.TheVariants.{OutOfRange, WrongLayout}
 use Rattle.rlsf_model_global.proofs.StepLeavesFlex.{flex_goes}
 use Rattle.rlsf_model_global.proofs.StepLeavesHeap.{no_row}
@@ -97,10 +97,6 @@ released_leaves : (h g : Heap) (addr : ℕ) → Releases h addr g → layout_at 
 unfolding layout_at
 released_leaves h g addr (m, step, after) = ap (λ (x : Heap). option_map row_layout (row_at addr x.asked)) after ∙ ap (option_map row_layout) (row_at-without_here addr h.asked)
 
--- two answers are the same
-abbrev AreSame : Done → Done → Type 0
-AreSame a b = a ≡ b
-
 -- a call that succeeded wasn't refused
 pub refused_not : {A B X : Type 0} (a : A) (b : B) → ◌≡◌ {A = Result A B} (Ok a) (Err b) → X
 refused_not a b e = absurd (cc)
@@ -115,8 +111,7 @@ deallocation_leaves h g addr layout = (plain (row_at addr h.asked), checked (row
     checked : (o : Option Row) → DeallocatesAsAt h addr layout o (Ok tt) g → layout_at g addr ≡ None
     checked None step = refused_not tt _ step.0
     checked (Some row) step =
-        either (AreSame (Ok tt) (Ok tt) × Releases h addr g) (AreSame (Ok tt) (Err WrongLayout) × (g ≡ h)) (layout_at g addr ≡ None) (is_same row.1 layout)
-        (λ e did. released_leaves h g addr did.1) (λ e did. refused_not tt WrongLayout did.0) step
+        either (is_same row.1 layout) step (λ e did. released_leaves h g addr did.1) (λ e did. refused_not tt WrongLayout did.0)
 
 pub write_leaves : WriteLeaves
 unfolding content_at layout_at
@@ -136,10 +131,7 @@ write_leaves memory h g addr offset bytes w step = go (row_at addr h.asked) step
         → (bytes_at g.flex.machine addr ≡ now) × (option_map row_layout (row_at addr g.asked) ≡ option_map row_layout (row_at addr h.asked))
     go None step = refused_not tt _ step.0
     go (Some row) step =
-        either (AreSame (Ok tt) (Ok tt) × WritesIn h addr offset bytes g) (AreSame (Ok tt) (Err OutOfRange) × (g ≡ h))
-        ((bytes_at g.flex.machine addr ≡ now) × (option_map row_layout (row_at addr g.asked) ≡ option_map row_layout (row_at addr h.asked)))
-        (are_usable h addr offset (length bytes))
-        (λ e did. wrote did.1) (λ e did. refused_not tt OutOfRange did.0) step
+        either (are_usable h addr offset (length bytes)) step (λ e did. wrote did.1) (λ e did. refused_not tt OutOfRange did.0)
 
 pub read_tells : ReadTells
 unfolding content_at
@@ -151,5 +143,4 @@ read_tells h g addr offset lent left step = go (row_at addr h.asked) step.0
     go : (o : Option Row) → ReadsAt h addr offset lent o (Ok tt) left → left ≡ told
     go None step = refused_not tt _ step.0
     go (Some row) step =
-        either (AreSame (Ok tt) (Ok tt) × (left ≡ told)) (AreSame (Ok tt) (Err OutOfRange) × (left ≡ lent)) (left ≡ told) (are_usable h addr offset (length lent))
-        (λ e did. did.1) (λ e did. refused_not tt OutOfRange did.0) step
+        either (are_usable h addr offset (length lent)) step (λ e did. did.1) (λ e did. refused_not tt OutOfRange did.0)

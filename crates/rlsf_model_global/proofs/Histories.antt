@@ -1,5 +1,5 @@
 -- Each step of a heap, and each list of them, leaves a heap and what it doesn't name.
-use Rattle.std.proofs.Common.{◌≡◌, ◌⊎◌, ℕ, Bool, true, false, MatchBool, IsSome, eqb, min, length, List, [], ◌∷◌, Option, Some, None, Ok, Err, refl, sym}
+use Rattle.std.proofs.Common.{◌≡◌, ◌⊎◌, ℕ, Bool, true, false, MatchBool, eqb, min, length, List, [], ◌∷◌, Option, Some, None, Ok, Err, refl, sym}
 use Rattle.std.proofs.Common.{◌∙◌, ap, subst, inl, inr}
 use Rattle.std.proofs.lemmas.Bool.{and_parts, eqb-true}
 use Rattle.std.specs.Option.{option_map}
@@ -8,25 +8,25 @@ use Rattle.rlsf_base.specs.declared.memory.layout.Layout.{Layout}
 use Rattle.rlsf_base.specs.declared.memory.range.Range.{Range}
 use Rattle.rlsf_model.specs.Callers.{bytes_at}
 use Rattle.rlsf_model.specs.FlexReallocate.{ReallocatesInRoom}
-use Rattle.rlsf_model.specs.Run.{IsSomeLive, reallocate as machine_reallocates}
+use Rattle.rlsf_model.specs.Run.{reallocate as machine_reallocates}
 use Rattle.rlsf_model.specs.FlexState.{with_machine}
-use Rattle.rlsf_model.proofs.CallerWords.{align_at-some, bytes_at-map}
+use Rattle.rlsf_model.proofs.CallerWords.{bytes_at-map}
 use Rattle.rlsf_model.proofs.NoMove.{unmoved_is_reallocated}
-use Rattle.rlsf_model_global.specs.declared.error.GlobalError.TheVariants.{NoRoom, OutOfRange, TableMemory, WrongLayout}
+use Rattle.rlsf_model_global.specs.declared.error.GlobalError.TheVariants.{NoRoom, TableMemory}
 use Rattle.rlsf_model_global.specs.Heap.{Heap, content_at, layout_at, row_layout, with_state}
 use Rattle.rlsf_model_global.specs.History.{IsPlacedAt, LeadsTo, Names, Step, allocate, deallocate, deallocate_as, reallocate, reallocate_as, reallocate_there, read, usable, write}
 use Rattle.rlsf_model_global.specs.Isolation.{HistoriesKeepHeap, IsSameAt, StepsKeepHeap, UnnamedStays, UnnamedStaysThroughout}
-use Rattle.rlsf_model_global.specs.Moves.{HeapMovesAway, ReallocatesAsAt, ReallocatesAt, ReallocatesThereAt, ReallocatesTo, HeapResizesThere, ResizesTo, Wanted}
+use Rattle.rlsf_model_global.specs.Moves.{HeapMovesAway, ReallocatesAsAt, ReallocatesAt, ReallocatesThereAt, ReallocatesTo, HeapResizesThere, ResizesTo}
 use Rattle.rlsf_model_global.specs.Rows.{Row, put, row_at, without_row}
 use Rattle.rlsf_model_global.specs.Standing.{IsHeap}
-use Rattle.rlsf_model_global.specs.Steps.{DeallocatesAsAt, DeallocatesAt, Done, Placed, Releases, WritesAt, WritesIn, are_usable, is_same}
+use Rattle.rlsf_model_global.specs.Steps.{DeallocatesAsAt, DeallocatesAt, Done, Placed, WritesAt, are_usable, is_same}
 use Rattle.rlsf_model_global.proofs.StepLeavesFlex.{flex_goes}
-use Rattle.rlsf_model_global.proofs.StepLeavesHeap.{Goes, Stays, allocated, live_row, released, replaced, resized, stays_all, written}
+use Rattle.rlsf_model_global.proofs.StepLeavesHeap.{Goes, Stays, allocated, released, replaced, resized, row_lives, stays_all, written}
 
 -- by what a test shows
-pub either : (A B C : Type 0) (b : Bool) → (b ≡ true → A → C) → (b ≡ false → B → C) → MatchBool b A B → C
-either A B C true f g x = f refl x
-either A B C false f g x = g refl x
+pub either : {A B C : Type 0} (b : Bool) → MatchBool b A B → (b ≡ true → A → C) → (b ≡ false → B → C) → C
+either true x f g = f refl x
+either false x f g = g refl x
 
 -- layouts that are the same have one alignment
 pub is_same-align : (a b : Layout) → is_same a b ≡ true → a.align ≡ b.align
@@ -48,22 +48,16 @@ module _ {memory : Range} (h : Heap) (w : IsHeap memory h) (g : Heap) where
   deallocation_as_goes : (addr : ℕ) (layout : Layout) (o : Option Row) (result : Done) → DeallocatesAsAt h addr layout o result g → Goes memory h g (λ a. addr ≡ a)
   deallocation_as_goes addr layout None result step = stays_all h w (λ a. addr ≡ a) g step.1
   deallocation_as_goes addr layout (Some row) result step =
-      either ((result ≡ Ok tt) × Releases h addr g) ((result ≡ Err WrongLayout) × (g ≡ h)) (Goes memory h g (λ a. addr ≡ a)) (is_same row.1 layout)
-      (λ same did. released h w g addr did.1) (λ differs did. stays_all h w (λ a. addr ≡ a) g did.1) step
+      either (is_same row.1 layout) step (λ same did. released h w g addr did.1) (λ differs did. stays_all h w (λ a. addr ≡ a) g did.1)
 
   write_goes : (addr offset : ℕ) (bytes : List ℕ) (o : Option Row) (result : Done) → WritesAt h addr offset bytes o result g → Goes memory h g (λ a. addr ≡ a)
   write_goes addr offset bytes None result step = stays_all h w (λ a. addr ≡ a) g step.1
   write_goes addr offset bytes (Some row) result step =
-      either ((result ≡ Ok tt) × WritesIn h addr offset bytes g) ((result ≡ Err OutOfRange) × (g ≡ h)) (Goes memory h g (λ a. addr ≡ a))
-      (are_usable h addr offset (length bytes))
-      (λ within did. written h w g addr offset bytes did.1) (λ past did. stays_all h w (λ a. addr ≡ a) g did.1) step
+      either (are_usable h addr offset (length bytes)) step (λ within did. written h w g addr offset bytes did.1) (λ past did. stays_all h w (λ a. addr ≡ a) g did.1)
 
   -- ---- a payload that gets another size
 
   module _ (addr : ℕ) (row : Row) (there : row_at addr h.asked ≡ Some row) (wanted : Layout) where
-    live : IsSomeLive h.flex.machine addr
-    live = align_at-some h.flex.machine addr (subst IsSome (sym (live_row h addr row w.lists there)) refl)
-
     moving_goes : (keep : ℕ) (result : Placed) → HeapMovesAway h addr keep wanted result g → Goes memory h g (λ a. (addr ≡ a) ⊎ IsPlacedAt result a)
     moving_goes keep (Ok to) step = replaced h w addr row there g to wanted step.1 keep step.0
     moving_goes keep (Err NoRoom) step = stays_all h w (λ a. (addr ≡ a) ⊎ IsPlacedAt (Err NoRoom) a) g step.1
@@ -72,7 +66,7 @@ module _ {memory : Range} (h : Heap) (w : IsHeap memory h) (g : Heap) where
     resizing_goes : row.1.align ≡ wanted.align → (result : Placed) → ResizesTo h addr wanted result g → Goes memory h g (λ a. (addr ≡ a) ⊎ IsPlacedAt result a)
     resizing_goes aligned (Ok to) ((notes, step, led), asked) =
         resized h w addr row there g to wanted asked notes aligned
-        (flex_goes h.source g.source w.owed.cursor h.flex w.flex w.owed g.flex notes led (machine_reallocates addr wanted.size (Some (at to))) tt live step)
+        (flex_goes h.source g.source w.owed.cursor h.flex w.flex w.owed g.flex notes led (machine_reallocates addr wanted.size (Some (at to))) tt (row_lives h addr row w.lists there) step)
     resizing_goes aligned (Err NoRoom) step = stays_all h w (λ a. (addr ≡ a) ⊎ IsPlacedAt (Err NoRoom) a) g step.1
     resizing_goes aligned (Err e) step = absurd step
 
@@ -83,7 +77,8 @@ module _ {memory : Range} (h : Heap) (w : IsHeap memory h) (g : Heap) where
         record { machine = m; reallocates = (unmoved_is_reallocated 64 h.flex.machine m addr wanted.size (Some (at to)) did).0.1; none = refl; after = refl } in
         subst (λ (x : Heap). Goes memory h x (λ a. (addr ≡ a) ⊎ IsPlacedAt (Ok to) a)) (sym after)
         (resized h w addr row there (with_state h m (put (to, wanted) (without_row addr h.asked))) to wanted refl [] aligned
-        (flex_goes h.source h.source w.owed.cursor h.flex w.flex w.owed u [] refl (machine_reallocates addr wanted.size (Some (at to))) tt live (inl room)))
+        (flex_goes h.source h.source w.owed.cursor h.flex w.flex w.owed u [] refl (machine_reallocates addr wanted.size (Some (at to))) tt (row_lives h addr row w.lists there)
+        (inl room)))
     unmoved_goes aligned (Err NoRoom) step = stays_all h w (λ a. (addr ≡ a) ⊎ IsPlacedAt (Err NoRoom) a) g step.1
     unmoved_goes aligned (Err e) step = absurd step
 
@@ -92,10 +87,9 @@ module _ {memory : Range} (h : Heap) (w : IsHeap memory h) (g : Heap) where
       → Goes memory h g (λ a. (addr ≡ a) ⊎ IsPlacedAt result a)
   reallocation_as_goes enabled addr layout n None result there step = stays_all h w (λ a. (addr ≡ a) ⊎ IsPlacedAt result a) g step.1
   reallocation_as_goes enabled addr layout n (Some row) result there step =
-      either (Wanted n layout.align (λ wanted. ReallocatesTo enabled h addr layout wanted result g)) ((result ≡ Err WrongLayout) × (g ≡ h))
-      (Goes memory h g (λ a. (addr ≡ a) ⊎ IsPlacedAt result a)) (is_same row.1 layout)
+      either (is_same row.1 layout) step
       (λ same did. made enabled did.layout (is_same-align row.1 layout same ∙ sym did.align) did.made)
-      (λ differs did. stays_all h w (λ a. (addr ≡ a) ⊎ IsPlacedAt result a) g did.1) step
+      (λ differs did. stays_all h w (λ a. (addr ≡ a) ⊎ IsPlacedAt result a) g did.1)
     where
       made : (b : Bool) (wanted : Layout) → row.1.align ≡ wanted.align → ReallocatesTo b h addr layout wanted result g
           → Goes memory h g (λ a. (addr ≡ a) ⊎ IsPlacedAt result a)
@@ -112,10 +106,9 @@ module _ {memory : Range} (h : Heap) (w : IsHeap memory h) (g : Heap) where
       → Goes memory h g (λ a. (addr ≡ a) ⊎ IsPlacedAt result a)
   reallocation_there_goes addr layout n None result there step = stays_all h w (λ a. (addr ≡ a) ⊎ IsPlacedAt result a) g step.1
   reallocation_there_goes addr layout n (Some row) result there step =
-      either (Wanted n layout.align (λ wanted. HeapResizesThere h addr wanted result g)) ((result ≡ Err WrongLayout) × (g ≡ h))
-      (Goes memory h g (λ a. (addr ≡ a) ⊎ IsPlacedAt result a)) (is_same row.1 layout)
+      either (is_same row.1 layout) step
       (λ same did. unmoved_goes addr row there did.layout (is_same-align row.1 layout same ∙ sym did.align) result did.made)
-      (λ differs did. stays_all h w (λ a. (addr ≡ a) ⊎ IsPlacedAt result a) g did.1) step
+      (λ differs did. stays_all h w (λ a. (addr ≡ a) ⊎ IsPlacedAt result a) g did.1)
 
   -- ---- each step
 

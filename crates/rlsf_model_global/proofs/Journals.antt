@@ -1,11 +1,11 @@
 -- The journal of some steps determines its answers and the placement.
-use Rattle.std.proofs.Common.{◌≡◌, Bool, true, false, if◌then◌else◌, true≢false, length, ℕ, List, [], ◌∷◌, ◌++◌, Option, Some, None, Ok, Err, refl, sym}
+use Rattle.std.proofs.Common.{◌≡◌, Bool, true, false, if◌then◌else◌, true≢false, length, ℕ, List, [], ◌∷◌, ◌++◌, Option, Some, None, Err, refl, sym}
 use Rattle.std.proofs.Common.{◌∙◌, ap, subst}
 use Rattle.rlsf_base.specs.declared.memory.range.Range.{Range}
 use Rattle.rlsf_model.proofs.Similar.{fill_is_similar}
-use Rattle.rlsf_model_global.specs.declared.error.GlobalError.TheVariants.{OutOfRange, TableMemory}
+use Rattle.rlsf_model_global.specs.declared.error.GlobalError.TheVariants.{TableMemory}
 use Rattle.rlsf_model_global.specs.Heap.{HaveSamePlacement, Heap, beginning}
-use Rattle.rlsf_model_global.specs.History.{IsHistory, LeadsTo, Step, allocate, deallocate, deallocate_as, reallocate, reallocate_as, reallocate_there, read, usable, write}
+use Rattle.rlsf_model_global.specs.History.{IsHistory, LeadsTo, Step, allocate, read, usable, write}
 use Rattle.rlsf_model_global.specs.Replays.{AreSameAnswers, HaveSameCalls, HasSameCall, JournalDetermines, LacksMemory, OthersKeepPlacement, ReplayBegins, ReplaysDetermine}
 use Rattle.rlsf_model_global.specs.Replays.{ReplayGoesOn, is_entry, journal_of}
 use Rattle.rlsf_model_global.specs.Rows.{Row, row_at}
@@ -25,8 +25,7 @@ wrote h g addr offset bytes (m, step, after) =
 writes : (h g : Heap) (addr offset : ℕ) (bytes : List ℕ) (o : Option Row) (result : Done) → WritesAt h addr offset bytes o result g → HaveSamePlacement h g
 writes h g addr offset bytes None result step = same_placement-refl h g step.1
 writes h g addr offset bytes (Some row) result step =
-    either ((result ≡ Ok tt) × WritesIn h addr offset bytes g) ((result ≡ Err OutOfRange) × (g ≡ h)) (HaveSamePlacement h g) (are_usable h addr offset (length bytes))
-    (λ e did. wrote h g addr offset bytes did.1) (λ e did. same_placement-refl h g did.1) step
+    either (are_usable h addr offset (length bytes)) step (λ e did. wrote h g addr offset bytes did.1) (λ e did. same_placement-refl h g did.1)
 
 pub others_keep_placement : OthersKeepPlacement
 others_keep_placement h g (allocate layout (Err TableMemory)) step other = same_placement-refl h g step
@@ -82,14 +81,7 @@ journal_determines memory h h' g g' steps steps' w w' near run run' same =
 -- a call is the same as itself
 HasSameCall-refl : (s : Step) → HasSameCall s s
 HasSameCall-refl (allocate layout m) = refl
-HasSameCall-refl (deallocate addr m) = refl
-HasSameCall-refl (deallocate_as addr layout m) = (refl, refl)
-HasSameCall-refl (reallocate_as enabled addr layout size m) = (refl, refl, refl, refl)
-HasSameCall-refl (reallocate addr wanted m) = (refl, refl)
-HasSameCall-refl (reallocate_there addr layout size m) = (refl, refl, refl)
-HasSameCall-refl (read addr offset lent m left) = (refl, refl, refl)
-HasSameCall-refl (write addr offset bytes m) = (refl, refl, refl)
-HasSameCall-refl (usable addr m) = refl
+HasSameCall-refl s = search
 
 HaveSameCalls-refl : (steps : List Step) → HaveSameCalls steps steps
 HaveSameCalls-refl [] = tt

@@ -1,5 +1,5 @@
 -- What reallocations leave.
-use Rattle.std.proofs.Common.{◌≡◌, ◌≢◌, ℕ, ◌≤◌, Bool, true, false, cond, eqb, length, min, take, drop, List, [], Option, Some, None, IsSome, Ok, Err, arith}
+use Rattle.std.proofs.Common.{◌≡◌, ◌≢◌, ℕ, ◌≤◌, Bool, true, false, cond, eqb, length, min, take, drop, List, [], Option, Some, None, Ok, arith}
 use Rattle.std.proofs.Common.{refl, sym, ◌∙◌, ap, subst, inl}
 use Rattle.std.proofs.lemmas.Bool.{and_parts, eqb-true}
 use Rattle.std.proofs.lemmas.List.{length-take-le, take_at}
@@ -13,19 +13,19 @@ use Rattle.rlsf_model.specs.FlexReallocate.{ReallocatesInRoom}
 use Rattle.rlsf_model.specs.FlexState.{with_machine}
 use Rattle.rlsf_model.specs.Note.{Note}
 use Rattle.rlsf_model.specs.Reallocate.{Keeps}
-use Rattle.rlsf_model.specs.Run.{IsSomeLive, reallocate as machine_reallocates}
+use Rattle.rlsf_model.specs.Run.{reallocate as machine_reallocates}
 use Rattle.rlsf_model.specs.State.{with_front}
-use Rattle.rlsf_model.proofs.CallerWords.{align_at-some, bytes_at-told}
+use Rattle.rlsf_model.proofs.CallerWords.{bytes_at-told}
 use Rattle.rlsf_model.proofs.NoMove.{unmoved_is_reallocated}
 use Rattle.rlsf_model_global.specs.Heap.{Agrees, Heap, Lists, content_at, layout_at, row_layout, with_state}
 use Rattle.rlsf_model_global.specs.Left.{IsMoved, IsMovedTo, ReallocationAsLeaves, ReallocationLeaves, ReallocationThereLeaves, in_both}
-use Rattle.rlsf_model_global.specs.Moves.{ReallocatesAsAt, ReallocatesAt, ReallocatesThereAt, ReallocatesTo, Replaces, HeapResizesThere, Wanted}
+use Rattle.rlsf_model_global.specs.Moves.{ReallocatesAsAt, ReallocatesAt, ReallocatesThereAt, ReallocatesTo, Replaces, HeapResizesThere}
 use Rattle.rlsf_model_global.specs.Rows.{Row, put, row_at, without_row}
 use Rattle.rlsf_model_global.specs.Standing.{IsHeap}
-use Rattle.rlsf_model_global.specs.Steps.{Placed, is_same}
+use Rattle.rlsf_model_global.specs.Steps.{is_same}
 use Rattle.rlsf_model_global.specs.declared.error.GlobalError.TheVariants.{WrongLayout}
 use Rattle.rlsf_model_global.proofs.StepLeavesFlex.{FlexGoes, flex_goes}
-use Rattle.rlsf_model_global.proofs.StepLeavesHeap.{live_row, replacement}
+use Rattle.rlsf_model_global.proofs.StepLeavesHeap.{replacement, row_lives}
 use Rattle.rlsf_model_global.proofs.Histories.{either}
 use Rattle.rlsf_model_global.proofs.AddressesLeft.{no_layout, put_layout, refused_not}
 use Rattle.rlsf_model_global.proofs.Maps.{row_at-put_other, row_at-without_here}
@@ -49,9 +49,6 @@ is_same-size : (a b : Layout) → is_same a b ≡ true → a.size ≡ b.size
 is_same-size a b e = eqb-true a.size b.size (and_parts (eqb a.size b.size) (eqb a.align b.align) e).0
 
 module _ {memory : Range} (h : Heap) (w : IsHeap memory h) (addr : ℕ) (row : Row) (there : row_at addr h.asked ≡ Some row) (to : NonZeroUsize) (wanted : Layout) where
-  lives : IsSomeLive h.flex.machine addr
-  lives = align_at-some h.flex.machine addr (subst IsSome (sym (live_row h addr row w.lists there)) refl)
-
   -- by the reference model
   resized_moved : (g : Heap) → g.asked ≡ put (to, wanted) (without_row addr h.asked) → (notes : List Note)
       → FlexGoes memory h.source h.flex (machine_reallocates addr wanted.size (Some (at to))) notes g.source g.flex
@@ -95,12 +92,9 @@ module _ {memory : Range} (h : Heap) (w : IsHeap memory h) (addr : ℕ) (row : R
         same,
         subst (λ (y : Heap). IsMoved h y addr (at to) (in_both h y addr (at to)) wanted) (sym after)
             (resized_moved x refl []
-            (flex_goes h.source h.source w.owed.cursor h.flex w.flex w.owed u [] refl (machine_reallocates addr wanted.size (Some (at to))) tt lives (inl room))),
+            (flex_goes h.source h.source w.owed.cursor h.flex w.flex w.owed u [] refl (machine_reallocates addr wanted.size (Some (at to))) tt
+            (row_lives h addr row w.lists there) (inl room))),
       )
-
--- two answers are the same
-abbrev AreSamePlaces : Placed → Placed → Type 0
-AreSamePlaces a b = a ≡ b
 
 pub reallocation_leaves : ReallocationLeaves
 unfolding content_at
@@ -120,10 +114,9 @@ reallocation_there_leaves memory h g addr layout n to w step = go (row_at addr h
         → (at to ≡ addr) × IsMovedTo h g addr (at to) (in_both h g addr (at to)) layout n
     go None there step = refused_not to _ step.0
     go (Some row) there step =
-        either (Wanted n layout.align (λ wanted. HeapResizesThere h addr wanted (Ok to) g)) (AreSamePlaces (Ok to) (Err WrongLayout) × (g ≡ h))
-        ((at to ≡ addr) × IsMovedTo h g addr (at to) (in_both h g addr (at to)) layout n) (is_same row.1 layout)
+        either (is_same row.1 layout) step
         (λ e did. let (same, moved) = there_moved h w addr row there to did.layout g did.made in (same, (did.layout, did.size, did.align, moved)))
-        (λ e did. refused_not to WrongLayout did.0) step
+        (λ e did. refused_not to WrongLayout did.0)
 
 pub reallocation_as_leaves : ReallocationAsLeaves
 reallocation_as_leaves memory enabled h g addr layout n to w step = go (row_at addr h.asked) refl step
@@ -134,7 +127,7 @@ reallocation_as_leaves memory enabled h g addr layout n to w step = go (row_at a
     made true row there same wanted size ((notes, step, led), asked) =
         resized_moved h w addr row there to wanted g asked notes
         (flex_goes h.source g.source w.owed.cursor h.flex w.flex w.owed g.flex notes led (machine_reallocates addr wanted.size (Some (at to))) tt
-        (lives h w addr row there to wanted) step)
+        (row_lives h addr row w.lists there) step)
     made false row there same wanted size (step, asked) =
         subst (λ i. IsMoved h g addr (at to) (min layout.size i) wanted) size
         (replaced_moved h w addr row there to wanted g asked (min layout.size wanted.size) (omega (arith, row_size h addr row w.lists there, same)) step).1
@@ -143,7 +136,6 @@ reallocation_as_leaves memory enabled h g addr layout n to w step = go (row_at a
         → IsMovedTo h g addr (at to) (cond enabled (in_both h g addr (at to)) (min layout.size n)) layout n
     go None there step = refused_not to _ step.0
     go (Some row) there step =
-        either (Wanted n layout.align (λ wanted. ReallocatesTo enabled h addr layout wanted (Ok to) g)) (AreSamePlaces (Ok to) (Err WrongLayout) × (g ≡ h))
-        (IsMovedTo h g addr (at to) (cond enabled (in_both h g addr (at to)) (min layout.size n)) layout n) (is_same row.1 layout)
+        either (is_same row.1 layout) step
         (λ e did. (did.layout, did.size, did.align, made enabled row there (is_same-size row.1 layout e) did.layout did.size did.made))
-        (λ e did. refused_not to WrongLayout did.0) step
+        (λ e did. refused_not to WrongLayout did.0)

@@ -30,20 +30,18 @@ valid64 = record { some_rows = lit< tt; rows_fit = omega arith; power_of_two = r
 -- they leave the cursor
 pub refused_notes : (x y : PageCursor) (g : Option (Range × ℕ)) (r : Option ℕ) → LeadsBy PageLeads x (growth_note g None ++ range_note r None) y → y ≡ x
 refused_notes x y None None led = led
-refused_notes x y None (Some n) (z, led, last) = last ∙ led.1
-refused_notes x y (Some (q, n)) None (z, led, last) = last ∙ led.1
 refused_notes x y (Some (q, n)) (Some m) (z, led, (w, more, last)) = last ∙ more.1 ∙ led.1
+refused_notes x y o o' (z, led, last) = last ∙ led.1
 
 -- a source may refuse at any time
 refused_answers : (t : Terms) (owed : List Range) (g : Option (Range × ℕ)) (r : Option ℕ) → MayAnswerAll t owed (growth_note g None ++ range_note r None)
 refused_answers t owed None None n i = absurd i
-refused_answers t owed None (Some m) n i = elim i [ inl e ↦ subst (MayAnswer t owed) (sym e) tt | inr none ↦ absurd none ]
-refused_answers t owed (Some (q, l)) None n i = elim i [ inl e ↦ subst (MayAnswer t owed) (sym e) tt | inr none ↦ absurd none ]
 refused_answers t owed (Some (q, l)) (Some m) n i = elim i [
   | inl e ↦ subst (MayAnswer t owed) (sym e) tt
   | inr (inl e) ↦ subst (MayAnswer t owed) (sym e) tt
   | inr (inr none) ↦ absurd none
 ]
+refused_answers t owed o o' n i = elim i [ inl e ↦ subst (MayAnswer t owed) (sym e) tt | inr none ↦ absurd none ]
 
 -- ---- what a growth is asked for
 
@@ -146,13 +144,11 @@ module _ {memory : Range} (x y : PageCursor) (is : IsPageCursor x) (s u : FlexSt
           → LeadsBy PageLeads x (notes_of (record { growth = g; range = r }) o) y → IsAnswered x s.pools (notes_of (record { growth = g; range = r }) o) y u.pools
       go refused g r is_g is_r possible takes led =
           subst (IsAnswered x s.pools (growth_note g None ++ range_note r None) y) (sym (ap (λ (v : FlexState). v.pools) takes)) (refused_answered x y is s.pools may g r led)
-      go (range_came c) g None is_g is_r possible takes led = absurd (true≢false (sym possible))
       go (range_came c) g (Some n) is_g is_r possible (len, inserted, pools, kept) led =
           let (e, is_wanted, long) = pool_of (range_came c) refl (subst (λ o. is_some o ≡ true) (sym is_r) possible) in
           let told = range_asked t s.kept e n (ap (λ o. (questions t s.kept o).range) (sym is_wanted) ∙ is_r) in
           let some : 0 < n = elim (range_length-is t e n told) [ inl more ↦ omega (arith, more, long) | inr same ↦ omega (arith, same.1, long) ] in
           subst (IsAnswered x s.pools (growth_note g None ++ range_note (Some n) (Some c)) y) (sym pools) (given_answered x y is s.pools may g n c some led)
-      go (growth_came len) None r is_g is_r possible takes led = absurd (true≢false (sym possible))
       go (growth_came len) (Some (c, n)) r is_g is_r possible (k, taken, was, appended, pools, kept) led =
           let (e, is_wanted, long) = pool_of (growth_came len) refl (subst (λ o. is_some o ≡ true) (sym is_g) possible) in
           let (same, sum) = growth_asked t k e c n (ap (λ o. (questions_for t o e).growth) (sym was) ∙ ap (λ o. (questions t s.kept o).growth) (sym is_wanted) ∙ is_g) in
@@ -161,3 +157,4 @@ module _ {memory : Range} (x y : PageCursor) (is : IsPageCursor x) (s u : FlexSt
           let short : c.len ≤ n = omega (arith, newest.nearly, long, sum, ap (λ (p : Range). p.len) same) in
           subst (IsAnswered x s.pools (grow c n (Some len) ∷ []) y) (sym (pools ∙ ap (longer len) split))
           (grown_answered x y is s.pools may c n len newest.rest short split led)
+      go o g r is_g is_r possible takes led = absurd (true≢false (sym possible))

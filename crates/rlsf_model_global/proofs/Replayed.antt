@@ -1,6 +1,6 @@
 -- From the same placement the same call has the same answer, and leads to the same placement.
 use mathlib.Core.Path.{ap₂}
-use Rattle.std.proofs.Common.{◌≡◌, ℕ, ◌+◌, Bool, true, false, MatchBool, IsSome, length, min, nat_le, take, drop, List, Option, Some, None, Ok, Err, Result, refl, sym}
+use Rattle.std.proofs.Common.{◌≡◌, ℕ, ◌+◌, Bool, true, false, MatchBool, length, min, nat_le, take, drop, List, Option, Some, None, Ok, Err, Result, refl, sym}
 use Rattle.std.proofs.Common.{◌∙◌, ap, subst}
 use Rattle.std.proofs.lemmas.Option.{none-some, same_Some}
 use Rattle.rlsf_base.specs.Addr.{at}
@@ -8,36 +8,32 @@ use Rattle.rlsf_base.specs.PowerOfTwo.{IsPowerOfTwo}
 use Rattle.rlsf_base.specs.declared.memory.layout.Layout.{Layout}
 use Rattle.rlsf_base.specs.declared.memory.range.Range.{Range}
 use Rattle.rlsf_model.specs.Callers.{bytes_at}
-use Rattle.rlsf_model.specs.FlexAllocate.{FlexAllocates}
-use Rattle.rlsf_model.specs.FlexReallocate.{FlexReallocates}
 use Rattle.rlsf_model.specs.FlexState.{AreFlexSimilar, FlexState, with_machine}
 use Rattle.rlsf_model.specs.FlexWellFormed.{IsFlexWellFormed}
-use Rattle.rlsf_model.specs.Note.{LeadsBy, Note}
 use Rattle.rlsf_model.specs.Run.{IsSomeLive, allocate as machine_allocates, deallocate as machine_deallocates, fill as machine_fills, reallocate as machine_reallocates}
 use Rattle.rlsf_model.specs.State.{with_front}
-use Rattle.rlsf_model.proofs.CallerWords.{align_at-some}
 use Rattle.rlsf_model.proofs.Similar.{fill_is_similar, similar_states_agree}
 use Rattle.rlsf_model.proofs.Steps.{steps_keep_well_formed}
 use Rattle.rlsf_model.proofs.TrimmedSimilar.{AreSimilar-sym}
 use Rattle.rlsf_model_global.specs.declared.error.GlobalError.{GlobalError}
-use Rattle.rlsf_model_global.specs.declared.error.GlobalError.TheVariants.{NoRoom, OutOfRange, TableMemory, WrongLayout}
-use Rattle.rlsf_model_global.specs.Cursor.{PageCursor, PageLeads, terms_of}
+use Rattle.rlsf_model_global.specs.declared.error.GlobalError.TheVariants.{NoRoom, OutOfRange, TableMemory}
+use Rattle.rlsf_model_global.specs.Cursor.{PageCursor, terms_of}
 use Rattle.rlsf_model_global.specs.Heap.{HaveSamePlacement, Heap}
 use Rattle.rlsf_model_global.specs.History.{allocate, deallocate, deallocate_as, reallocate, reallocate_as, reallocate_there, read, usable, write}
-use Rattle.rlsf_model_global.specs.Moves.{HeapMovesAway, ReallocatesAsAt, ReallocatesAt, ReallocatesThereAt, ReallocatesTo, Replaces, FlexResizes, HeapResizesThere, ResizesTo, Wanted}
+use Rattle.rlsf_model_global.specs.Moves.{HeapMovesAway, ReallocatesAsAt, ReallocatesAt, ReallocatesThereAt, ReallocatesTo, Replaces, FlexResizes, HeapResizesThere, ResizesTo}
 use Rattle.rlsf_model_global.specs.Replays.{LacksMemory, PlacementDetermines}
 use Rattle.rlsf_model_global.specs.Rows.{Row, put, row_at, without_row}
 use Rattle.rlsf_model_global.specs.Standing.{IsHeap}
 use Rattle.rlsf_model_global.specs.Steps.{DeallocatesAsAt, DeallocatesAt, Done, HeapAllocates, Placed, ReadsAt, Releases, Takes, UsableAt, WritesAt, WritesIn, are_usable, is_same}
 use Rattle.rlsf_model_global.proofs.StepLeavesFlex.{flex_goes}
-use Rattle.rlsf_model_global.proofs.StepLeavesHeap.{live_row}
+use Rattle.rlsf_model_global.proofs.StepLeavesHeap.{row_lives}
 use Rattle.rlsf_model_global.proofs.EqualNumbers.{same_address, same_layout}
 use Rattle.rlsf_model_global.proofs.Similars.{AreSimilar-trans, flex_determined, lengths-same, same_placement-at, unmoved-similar}
 
 -- by the result of a test of both
-both : (A B A' B' C : Type 0) (b : Bool) → (A → A' → C) → (B → B' → C) → MatchBool b A B → MatchBool b A' B' → C
-both A B A' B' C true f g x y = f x y
-both A B A' B' C false f g x y = g x y
+both : {A B A' B' C : Type 0} (b : Bool) → MatchBool b A B → MatchBool b A' B' → (A → A' → C) → (B → B' → C) → C
+both true x y f g = f x y
+both false x y f g = g x y
 
 module _ {memory : Range} (h h' : Heap) (w : IsHeap memory h) (w' : IsHeap memory h') (r : HaveSamePlacement h h') where
   -- ---- the reference model's steps
@@ -53,17 +49,10 @@ module _ {memory : Range} (h h' : Heap) (w : IsHeap memory h) (w' : IsHeap memor
   at_row : (P : Option Row → Type 0) (addr : ℕ) → P (row_at addr h'.asked) → P (row_at addr h.asked)
   at_row P addr = subst P (ap (row_at addr) (sym r.asked))
 
-  live : (addr : ℕ) (row : Row) → row_at addr h.asked ≡ Some row → IsSomeLive h.flex.machine addr
-  live addr row there = align_at-some h.flex.machine addr (subst IsSome (sym (live_row h addr row w.lists there)) refl)
-
-  live' : (addr : ℕ) (row : Row) → row_at addr h.asked ≡ Some row → IsSomeLive h'.flex.machine addr
-  live' addr row there = align_at-some h'.flex.machine addr (subst IsSome (sym (live_row h' addr row w'.lists (ap (row_at addr) (sym r.asked) ∙ there))) refl)
-
   took : (size align : ℕ) → IsPowerOfTwo align → (m n : Option ℕ) (u u' : FlexState) (y y' : PageCursor) → Takes h size align m u y → Takes h' size align n u' y'
       → (m ≡ n) × AreFlexSimilar u u' × (y ≡ y')
   took size align power m n u u' y y' (notes, step, led) b =
-      let (notes', step', led') =
-      subst (λ (c : PageCursor). (ns : List Note) × FlexAllocates 64 64 (terms_of c) h'.flex size align n ns u' × LeadsBy PageLeads c ns y') (sym r.source) b in
+      let (notes', step', led') = rw (← r.source) at b in
       let answers = (flex_goes h.source y w.owed.cursor h.flex w.flex w.owed u notes led (machine_allocates size align m) tt power step).answers in
       let d =
       flex_determined h.source y y' h.flex h'.flex u u' w.flex whole flexes (machine_allocates size align m) (machine_allocates size align n) notes notes' answers led led' step
@@ -75,8 +64,7 @@ module _ {memory : Range} (h h' : Heap) (w : IsHeap memory h) (w' : IsHeap memor
   resized : (addr size : ℕ) → IsSomeLive h.flex.machine addr → (m n : Option ℕ) (u u' : FlexState) (y y' : PageCursor) → FlexResizes h addr size m u y
       → FlexResizes h' addr size n u' y' → (m ≡ n) × AreFlexSimilar u u' × (y ≡ y')
   resized addr size lives m n u u' y y' (notes, step, led) b =
-      let (notes', step', led') =
-      subst (λ (c : PageCursor). (ns : List Note) × FlexReallocates 64 64 (terms_of c) h'.flex addr size n ns u' × LeadsBy PageLeads c ns y') (sym r.source) b in
+      let (notes', step', led') = rw (← r.source) at b in
       let answers = (flex_goes h.source y w.owed.cursor h.flex w.flex w.owed u notes led (machine_reallocates addr size m) tt lives step).answers in
       let d =
       flex_determined h.source y y' h.flex h'.flex u u' w.flex whole flexes (machine_reallocates addr size m) (machine_reallocates addr size n) notes notes' answers led led'
@@ -134,9 +122,7 @@ module _ {memory : Range} (h h' : Heap) (w : IsHeap memory h) (w' : IsHeap memor
     allocates layout (Err NoRoom) (Err NoRoom) s t p q = (refl, stay s.1 t.1)
     allocates layout (Err TableMemory) n s t p q = absurd (p tt)
     allocates layout m (Err TableMemory) s t p q = absurd (q tt)
-    allocates layout (Ok a) (Err e) s t p q = absurd t
-    allocates layout (Err NoRoom) (Err e) s t p q = absurd t
-    allocates layout (Err e) n s t p q = absurd s
+    allocates layout m n s t p q = search
 
     releases : (addr : ℕ) → Releases h addr g → Releases h' addr g' → HaveSamePlacement g g'
     releases addr (m, step, after) (m', step', after') =
@@ -153,9 +139,7 @@ module _ {memory : Range} (h h' : Heap) (w : IsHeap memory h) (w' : IsHeap memor
         → (m ≡ n) × HaveSamePlacement g g'
     deallocates_as addr layout None m n s t = (s.0 ∙ sym t.0, stay s.1 t.1)
     deallocates_as addr layout (Some row) m n s t =
-        both ((m ≡ Ok tt) × Releases h addr g) ((m ≡ Err WrongLayout) × (g ≡ h)) ((n ≡ Ok tt) × Releases h' addr g') ((n ≡ Err WrongLayout) × (g' ≡ h'))
-        ((m ≡ n) × HaveSamePlacement g g') (is_same row.1 layout)
-        (λ x y. (x.0 ∙ sym y.0, releases addr x.1 y.1)) (λ x y. (x.0 ∙ sym y.0, stay x.1 y.1)) s t
+        both (is_same row.1 layout) s t (λ x y. (x.0 ∙ sym y.0, releases addr x.1 y.1)) (λ x y. (x.0 ∙ sym y.0, stay x.1 y.1))
 
     -- ---- a payload that gets another size
 
@@ -170,9 +154,7 @@ module _ {memory : Range} (h h' : Heap) (w : IsHeap memory h) (w' : IsHeap memor
     moves_away addr keep keep' wanted (Err NoRoom) (Ok b) s t =
         absurd (none-some (at b) (took wanted.size wanted.align wanted.valid.aligned None (Some (at b)) h.flex t.0.meanwhile h.source g'.source s.0 t.0.takes).0)
     moves_away addr keep keep' wanted (Err NoRoom) (Err NoRoom) s t = (refl, stay s.1 t.1)
-    moves_away addr keep keep' wanted (Ok a) (Err e) s t = absurd t
-    moves_away addr keep keep' wanted (Err NoRoom) (Err e) s t = absurd t
-    moves_away addr keep keep' wanted (Err e) n s t = absurd s
+    moves_away addr keep keep' wanted m n s t = search
 
     resizes_to : (addr : ℕ) (wanted : Layout) → IsSomeLive h.flex.machine addr → (m n : Placed) → ResizesTo h addr wanted m g → ResizesTo h' addr wanted n g'
         → (m ≡ n) × HaveSamePlacement g g'
@@ -184,9 +166,7 @@ module _ {memory : Range} (h h' : Heap) (w : IsHeap memory h) (w' : IsHeap memor
         absurd (none-some (at a) (sym (resized addr wanted.size lives (Some (at a)) None g.flex h'.flex g.source h'.source s.0 t.0).0))
     resizes_to addr wanted lives (Err NoRoom) (Ok b) s t = absurd (none-some (at b) (resized addr wanted.size lives None (Some (at b)) h.flex g'.flex h.source g'.source s.0 t.0).0)
     resizes_to addr wanted lives (Err NoRoom) (Err NoRoom) s t = (refl, stay s.1 t.1)
-    resizes_to addr wanted lives (Ok a) (Err e) s t = absurd t
-    resizes_to addr wanted lives (Err NoRoom) (Err e) s t = absurd t
-    resizes_to addr wanted lives (Err e) n s t = absurd s
+    resizes_to addr wanted lives m n s t = search
 
     resizes_there : (addr : ℕ) (wanted : Layout) (m n : Placed) → HeapResizesThere h addr wanted m g → HeapResizesThere h' addr wanted n g' → (m ≡ n) × HaveSamePlacement g g'
     resizes_there addr wanted (Ok a) (Ok b) (i, step, after) (j, step', after') =
@@ -201,9 +181,7 @@ module _ {memory : Range} (h h' : Heap) (w : IsHeap memory h) (w' : IsHeap memor
     resizes_there addr wanted (Err NoRoom) (Ok b) s (j, step', after') =
         absurd (none-some (at b) (unmoved-similar w.flex.machine w'.flex.machine r.machine addr wanted.size None (Some (at b)) h.flex.machine j s.0 step').0)
     resizes_there addr wanted (Err NoRoom) (Err NoRoom) s t = (refl, stay s.1 t.1)
-    resizes_there addr wanted (Ok a) (Err e) s t = absurd t
-    resizes_there addr wanted (Err NoRoom) (Err e) s t = absurd t
-    resizes_there addr wanted (Err e) n s t = absurd s
+    resizes_there addr wanted m n s t = search
 
     reallocates_to : (enabled : Bool) (addr : ℕ) (layout wanted : Layout) → IsSomeLive h.flex.machine addr → (m n : Placed) → ReallocatesTo enabled h addr layout wanted m g
         → ReallocatesTo enabled h' addr layout wanted n g'
@@ -216,13 +194,11 @@ module _ {memory : Range} (h h' : Heap) (w : IsHeap memory h) (w' : IsHeap memor
         → ReallocatesAsAt enabled h' addr layout size o n g' → (m ≡ n) × HaveSamePlacement g g'
     reallocates_as enabled addr layout size None m n there s t = (s.0 ∙ sym t.0, stay s.1 t.1)
     reallocates_as enabled addr layout size (Some row) m n there s t =
-        both (Wanted size layout.align (λ wanted. ReallocatesTo enabled h addr layout wanted m g)) ((m ≡ Err WrongLayout) × (g ≡ h))
-        (Wanted size layout.align (λ wanted. ReallocatesTo enabled h' addr layout wanted n g')) ((n ≡ Err WrongLayout) × (g' ≡ h')) ((m ≡ n) × HaveSamePlacement g g')
-        (is_same row.1 layout)
+        both (is_same row.1 layout) s t
         (λ x y.
         let same = same_layout x.layout y.layout (x.size ∙ sym y.size) (x.align ∙ sym y.align) in
-        reallocates_to enabled addr layout x.layout (live addr row there) m n x.made (subst (λ (l : Layout). ReallocatesTo enabled h' addr layout l n g') (sym same) y.made))
-        (λ x y. (x.0 ∙ sym y.0, stay x.1 y.1)) s t
+        reallocates_to enabled addr layout x.layout (row_lives h addr row w.lists there) m n x.made (subst (λ (l : Layout). ReallocatesTo enabled h' addr layout l n g') (sym same) y.made))
+        (λ x y. (x.0 ∙ sym y.0, stay x.1 y.1))
 
     reallocates : (addr : ℕ) (wanted : Layout) (o : Option Row) (m n : Placed) → ReallocatesAt h addr wanted o m g → ReallocatesAt h' addr wanted o n g'
         → (m ≡ n) × HaveSamePlacement g g'
@@ -235,21 +211,19 @@ module _ {memory : Range} (h h' : Heap) (w : IsHeap memory h) (w' : IsHeap memor
         → (m ≡ n) × HaveSamePlacement g g'
     reallocates_there addr layout size None m n s t = (s.0 ∙ sym t.0, stay s.1 t.1)
     reallocates_there addr layout size (Some row) m n s t =
-        both (Wanted size layout.align (λ wanted. HeapResizesThere h addr wanted m g)) ((m ≡ Err WrongLayout) × (g ≡ h))
-        (Wanted size layout.align (λ wanted. HeapResizesThere h' addr wanted n g')) ((n ≡ Err WrongLayout) × (g' ≡ h')) ((m ≡ n) × HaveSamePlacement g g')
-        (is_same row.1 layout)
+        both (is_same row.1 layout) s t
         (λ x y.
         let same = same_layout x.layout y.layout (x.size ∙ sym y.size) (x.align ∙ sym y.align) in
         resizes_there addr x.layout m n x.made (subst (λ (l : Layout). HeapResizesThere h' addr l n g') (sym same) y.made))
-        (λ x y. (x.0 ∙ sym y.0, stay x.1 y.1)) s t
+        (λ x y. (x.0 ∙ sym y.0, stay x.1 y.1))
 
     -- ---- a payload that is read or written, or whose length is returned
 
     module _ (addr : ℕ) (row : Row) (there : row_at addr h.asked ≡ Some row) where
       lengths : length (bytes_at h.flex.machine addr) ≡ length (bytes_at h'.flex.machine addr)
       lengths =
-          let (u, held) = live addr row there in
-          let (v, held') = live' addr row there in
+          let (u, held) = row_lives h addr row w.lists there in
+          let (v, held') = row_lives h' addr row w'.lists (ap (row_at addr) (sym r.asked) ∙ there) in
           lengths-same w.flex.machine w'.flex.machine r.machine addr u v held held'
 
       fits-same : (offset m n : ℕ) → m ≡ n → are_usable h' addr offset n ≡ are_usable h addr offset m
@@ -259,12 +233,10 @@ module _ {memory : Range} (h h' : Heap) (w : IsHeap memory h) (w' : IsHeap memor
         → ReadsAt h addr offset lent o m left → ReadsAt h' addr offset lent' o n left' → m ≡ n
     reads addr offset lent lent' left left' same None m n there s t = s.0 ∙ sym t.0
     reads addr offset lent lent' left left' same (Some row) m n there s t =
-        let A = (m ≡ Ok tt) × (left ≡ take (length lent) (drop offset (bytes_at h.flex.machine addr))) in
-        let B = (m ≡ Err OutOfRange) × (left ≡ lent) in
         let A' = (n ≡ Ok tt) × (left' ≡ take (length lent') (drop offset (bytes_at h'.flex.machine addr))) in
         let B' = (n ≡ Err OutOfRange) × (left' ≡ lent') in
-        both A B A' B' (m ≡ n) (are_usable h addr offset (length lent)) (λ x y. x.0 ∙ sym y.0) (λ x y. x.0 ∙ sym y.0) s
-        (subst (λ b. MatchBool b A' B') (fits-same addr row there offset (length lent) (length lent') same) t)
+        both (are_usable h addr offset (length lent)) s (subst (λ b. MatchBool b A' B') (fits-same addr row there offset (length lent) (length lent') same) t)
+        (λ x y. x.0 ∙ sym y.0) (λ x y. x.0 ∙ sym y.0)
 
     wrote : (addr offset : ℕ) (bytes bytes' : List ℕ) → WritesIn h addr offset bytes g → WritesIn h' addr offset bytes' g' → HaveSamePlacement g g'
     wrote addr offset bytes bytes' (i, step, after) (j, step', after') =
@@ -278,9 +250,8 @@ module _ {memory : Range} (h h' : Heap) (w : IsHeap memory h) (w' : IsHeap memor
     writes addr offset bytes bytes' same (Some row) m n there s t =
         let A' = (n ≡ Ok tt) × WritesIn h' addr offset bytes' g' in
         let B' = (n ≡ Err OutOfRange) × (g' ≡ h') in
-        both ((m ≡ Ok tt) × WritesIn h addr offset bytes g) ((m ≡ Err OutOfRange) × (g ≡ h)) A' B' ((m ≡ n) × HaveSamePlacement g g') (are_usable h addr offset (length bytes))
-        (λ x y. (x.0 ∙ sym y.0, wrote addr offset bytes bytes' x.1 y.1)) (λ x y. (x.0 ∙ sym y.0, stay x.1 y.1)) s
-        (subst (λ b. MatchBool b A' B') (fits-same addr row there offset (length bytes) (length bytes') same) t)
+        both (are_usable h addr offset (length bytes)) s (subst (λ b. MatchBool b A' B') (fits-same addr row there offset (length bytes) (length bytes') same) t)
+        (λ x y. (x.0 ∙ sym y.0, wrote addr offset bytes bytes' x.1 y.1)) (λ x y. (x.0 ∙ sym y.0, stay x.1 y.1))
 
     usable_lengths : (addr : ℕ) (o : Option Row) (m n : Result ℕ GlobalError) → row_at addr h.asked ≡ o → UsableAt h addr o m → UsableAt h' addr o n → m ≡ n
     usable_lengths addr None m n there s t = s ∙ sym t

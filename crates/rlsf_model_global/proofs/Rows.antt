@@ -1,7 +1,7 @@
 -- Rows in the order of their addresses.
-use Rattle.std.proofs.Common.{◌≡◌, ◌≢◌, ◌⊎◌, ℕ, suc, ◌<◌, ◌≤◌, List, [], ◌∷◌, Some, None, Bool, true, false, true≢false, not, nat_lt}
-use Rattle.std.proofs.Common.{◌==◌, refl, sym, ap, subst, arith, inl, inr, ◌∙◌, if◌then◌else◌}
-use Rattle.std.proofs.lemmas.Bool.Decides.{eqb_tells, leb_tells}
+use Rattle.std.proofs.Common.{◌≡◌, ◌≢◌, ◌⊎◌, ℕ, suc, ◌<◌, ◌≤◌, List, [], ◌∷◌, None, Bool, true, false, true≢false, not, nat_lt}
+use Rattle.std.proofs.Common.{◌==◌, refl, sym, subst, arith, inl, inr, if◌then◌else◌}
+use Rattle.std.proofs.lemmas.Bool.Decides.{eqb_tells, leb_tells, nat_tests}
 use Rattle.rlsf_model.specs.Lists.{IsIn}
 use Rattle.rlsf_model_global.specs.Rows.{Row, key, IsSorted, row_at, put, without_row}
 
@@ -15,26 +15,11 @@ clash' e = absurd (true≢false (sym e))
 -- what is in the entries with one more
 pub IsIn-put : (x row : Row) (rows : List Row) → IsIn x (put row rows) → (x ≡ row) ⊎ IsIn x rows
 IsIn-put x row [] h = h
-IsIn-put x row (r ∷ rows) h = by (IsIn-put x row rows) (nat_lt (key r) (key row)) (key r == key row) h
-  where
-    by : (IsIn x (put row rows) → (x ≡ row) ⊎ IsIn x rows) → (lt eq : Bool) → IsIn x (if lt then r ∷ put row rows else if eq then row ∷ rows else row ∷ r ∷ rows)
-        → (x ≡ row) ⊎ IsIn x (r ∷ rows)
-    by rest true eq (inl e) = inr (inl e)
-    by rest true eq (inr i) = elim (rest i) [ inl e ↦ inl e | inr j ↦ inr (inr j) ]
-    by rest false true (inl e) = inl e
-    by rest false true (inr i) = inr (inr i)
-    by rest false false h = h
+IsIn-put x row (r ∷ rows) h = let rest = IsIn-put x row rows in grind (arith, nat_tests)
 
 pub IsIn-without_row : (x : Row) (a : ℕ) (rows : List Row) → IsIn x (without_row a rows) → IsIn x rows × (key x ≢ a)
 IsIn-without_row x a [] h = absurd h
-IsIn-without_row x a (r ∷ rows) h = by (IsIn-without_row x a rows) (key r == a) (eqb_tells (key r) a) h
-  where
-    by : (IsIn x (without_row a rows) → IsIn x rows × (key x ≢ a)) → (eq : Bool) → ((eq ≡ true) × (key r ≡ a)) ⊎ ((eq ≡ false) × (key r ≢ a))
-        → IsIn x (if not eq then r ∷ without_row a rows else without_row a rows) → IsIn x (r ∷ rows) × (key x ≢ a)
-    by rest true t h = let j = rest h in (inr j.0, j.1)
-    by rest false (inl (off, _)) h = clash' off
-    by rest false (inr (_, differs)) (inl e) = (inl e, λ same. differs (sym (ap key e) ∙ same))
-    by rest false (inr _) (inr i) = let j = rest i in (inr j.0, j.1)
+IsIn-without_row x a (r ∷ rows) h = let rest = IsIn-without_row x a rows in grind (arith, nat_tests)
 
 -- a new address keeps the order
 pub put-sorted : (row : Row) (rows : List Row) → IsSorted rows → ((r : Row) → IsIn r rows → key r ≢ key row) → IsSorted (put row rows)
@@ -67,12 +52,4 @@ without_row-sorted a (r ∷ rows) s = by (without_row-sorted a rows s.1) (key r 
 -- an address without an entry
 pub absent-row_at : (addr : ℕ) (rows : List Row) → row_at addr rows ≡ None → (r : Row) → IsIn r rows → key r ≢ addr
 absent-row_at addr [] e r i = absurd i
-absent-row_at addr (x ∷ rows) e r i = by (absent-row_at addr rows) (key x == addr) (eqb_tells (key x) addr) e i
-  where
-    by : (row_at addr rows ≡ None → (r : Row) → IsIn r rows → key r ≢ addr) → (eq : Bool)
-        → ((eq ≡ true) × (key x ≡ addr)) ⊎ ((eq ≡ false) × (key x ≢ addr)) → (if eq then Some x else row_at addr rows) ≡ None → IsIn r (x ∷ rows)
-        → key r ≢ addr
-    by rest true t e i = grind (arith, e)
-    by rest false (inl (off, _)) e i = clash' off
-    by rest false (inr (_, differs)) e (inl same) = λ here. differs (sym (ap key same) ∙ here)
-    by rest false (inr _) e (inr i) = rest e r i
+absent-row_at addr (x ∷ rows) e r i = let rest = absent-row_at addr rows in grind (arith, nat_tests, e)

@@ -52,9 +52,8 @@ same_placement-at {h} {h'} g g' e f r = subst (λ x. HaveSamePlacement x g') (sy
 
 alloc-determined : (x y z : PageCursor) (n : ℕ) (a b : Option Range) → PageLeads x (alloc n a) y → PageLeads x (alloc n b) z → (a ≡ b) × (y ≡ z)
 alloc-determined x y z n None None l m = (refl, l.1 ∙ sym m.1)
-alloc-determined x y z n None (Some r) l m = absurd (omega (arith, l.0, m.0))
-alloc-determined x y z n (Some r) None l m = absurd (omega (arith, l.0, m.0))
 alloc-determined x y z n (Some r) (Some q) l m = (ap Some (l.1 ∙ sym m.1), l.2 ∙ sym m.2)
+alloc-determined x y z n o o' l m = absurd (omega (arith, l.0, m.0))
 
 grow-determined : (x y z : PageCursor) (r : Range) (n : ℕ) (a b : Option ℕ) → PageLeads x (grow r n a) y → PageLeads x (grow r n b) z → (a ≡ b) × (y ≡ z)
 grow-determined x y z r n None None l m = (refl, l.1 ∙ sym m.1)
@@ -104,12 +103,11 @@ module _ {memory : Range} {s s' : State} (w : IsWellFormed 64 64 memory s) (w' :
     where
       go : (u v : Used) → Holds s' addr v → shape_of u ≡ shape_of v → (o : Option Plan) (m n : Option ℕ) → ReallocatesUnmovedBy s u o m t
           → ReallocatesUnmovedBy s' v o n t' → (m ≡ n) × AreSimilar t t'
-      go u v held shape (Some x) None n a b = absurd a
       go u v held shape (Some x) (Some i) None a b = absurd b
       go u v held shape (Some x) (Some i) (Some j) a b = reallocate-similar w' r u v held.0 shape size (Some x) (Some i) (Some j) t t' a b
-      go u v held shape None (Some i) n a b = absurd a
       go u v held shape None None (Some j) a b = absurd b
       go u v held shape None None None a b = (refl, subst (λ x. AreSimilar x t') (sym a) (subst (AreSimilar s) (sym b) r))
+      go u v held shape o o' n a b = absurd a
 
   -- a payload has as many bytes in both
   pub lengths-same : (addr : ℕ) (u v : Used) → Holds s addr u → Holds s' addr v → length (bytes_at s addr) ≡ length (bytes_at s' addr)

@@ -45,8 +45,6 @@ module _ {memory : Range} (x y : PageCursor) (is : IsPageCursor x) (s : FlexStat
       (subst (IsAnswered x s.pools [] y) (sym (ap (λ (z : FlexState). z.pools) after)) (nothing_asked x y is s.pools may (subst (λ ns. LeadsBy PageLeads x ns y) none led)))
 
   answered : (e : Event) → IsHeaps e → FlexLeads 64 64 (terms_of x) s e notes u → IsAnswered x s.pools notes y u.pools
-  answered (insert r reply) heaps step = absurd step
-  answered (append r reply) heaps step = absurd step
   answered (allocate size align None) heaps step = extended_answered x y is s u w may size align refused notes step.extends led
   answered (allocate size align (Some addr)) heaps (inl room) = alone room.machine room.none room.after
   answered (allocate size align (Some addr)) heaps (inr more) =
@@ -57,8 +55,8 @@ module _ {memory : Range} (x y : PageCursor) (is : IsPageCursor x) (s : FlexStat
   answered (reallocate addr size (Some to)) heaps (inr more) =
       at_machine more.meanwhile u more.machine more.after (extended_answered x y is s more.meanwhile w may size more.block.align more.outcome notes more.asks.extends led)
   answered (fill addr bytes) heaps step = alone step.machine step.none step.after
-  answered (remove r) heaps step = absurd step
   answered (trim count) heaps step = absurd heaps
+  answered e heaps step = absurd step
 
   pub flex_goes : (e : Event) → IsHeaps e → FlexMayCall memory s.machine e → FlexLeads 64 64 (terms_of x) s e notes u → FlexGoes memory x s e notes y u
   flex_goes e heaps call step =

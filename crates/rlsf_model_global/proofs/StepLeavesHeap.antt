@@ -1,5 +1,5 @@
 -- What a step of a heap leaves: a heap, and each payload that it doesn't name.
-use Rattle.std.proofs.Common.{◌≡◌, ◌≢◌, ◌⊎◌, ℕ, ◌+◌, ◌<◌, ◌≤◌, length, List, [], Some, None, arith, refl, sym, ◌∙◌, ap, subst, inl, inr}
+use Rattle.std.proofs.Common.{◌≡◌, ◌≢◌, ◌⊎◌, ℕ, ◌+◌, ◌<◌, ◌≤◌, length, List, [], Some, None, IsSome, arith, refl, sym, ◌∙◌, ap, subst, inl, inr}
 use Rattle.std.proofs.lemmas.Bool.{cases_eq}
 use Rattle.std.proofs.lemmas.Option.{none-some, same_Some}
 use Rattle.std.specs.List.{splice}
@@ -12,9 +12,9 @@ use Rattle.rlsf_model.specs.FlexRun.{AsksNothing}
 use Rattle.rlsf_model.specs.FlexState.{FlexState, with_machine}
 use Rattle.rlsf_model.specs.FlexWellFormed.{IsFlexWellFormed}
 use Rattle.rlsf_model.specs.Note.{Note}
-use Rattle.rlsf_model.specs.Run.{allocate as machine_allocates, deallocate as machine_deallocates, fill as machine_fills, reallocate as machine_reallocates}
+use Rattle.rlsf_model.specs.Run.{IsSomeLive, allocate as machine_allocates, deallocate as machine_deallocates, fill as machine_fills, reallocate as machine_reallocates}
 use Rattle.rlsf_model.specs.State.{State, with_front}
-use Rattle.rlsf_model.proofs.CallerWords.{align_at-map, align_at-none, align_at-told, bytes_at-map, bytes_at-told, filled_seen}
+use Rattle.rlsf_model.proofs.CallerWords.{align_at-map, align_at-some, align_at-none, align_at-told, bytes_at-map, bytes_at-told, filled_seen}
 use Rattle.rlsf_model_global.specs.Cursor.{PageCursor, terms_of}
 use Rattle.rlsf_model_global.specs.Heap.{Agrees, Heap, Lists}
 use Rattle.rlsf_model_global.specs.Moves.{Replaces}
@@ -50,6 +50,9 @@ served m a layout p is serves =
 -- where an entry is, a payload is
 pub live_row : (h : Heap) (addr : ℕ) (row : Row) → Lists h.asked h.flex.machine → row_at addr h.asked ≡ Some row → align_at h.flex.machine addr ≡ Some row.1.align
 live_row h addr row lists is = (subst (λ o. Agrees o (align_at h.flex.machine addr) (bytes_at h.flex.machine addr)) is (lists addr)).0
+
+pub row_lives : (h : Heap) (addr : ℕ) (row : Row) → Lists h.asked h.flex.machine → row_at addr h.asked ≡ Some row → IsSomeLive h.flex.machine addr
+row_lives h addr row lists is = align_at-some h.flex.machine addr (subst IsSome (sym (live_row h addr row lists is)) refl)
 
 -- where no payload is, no entry is
 pub no_row : (h : Heap) (a : ℕ) → Lists h.asked h.flex.machine → payload_at h.flex.machine a ≡ None → row_at a h.asked ≡ None
@@ -202,11 +205,19 @@ module _ {memory : Range} (h : Heap) (w : IsHeap memory h) where
         ]))
 
     -- a payload is at another address or of another size
-    moved : (is : IsHeap memory (record { flex = g.flex; source = g.source; asked = put (to, wanted) (without_row addr h.asked) }))
-        → ((a : ℕ) → a ≢ addr → a ≢ at to → payload_at g.flex.machine a ≡ payload_at h.flex.machine a)
-        → Goes memory h g (λ a. (addr ≡ a) ⊎ (at to ≡ a))
-    moved is others = record {
-      heap = record { flex = is.flex; owed = is.owed; sorted = subst IsSorted (sym asked) is.sorted; lists = subst (λ l. Lists l g.flex.machine) (sym asked) is.lists };
+    moved : IsFlexWellFormed 64 64 memory (terms_of g.source) g.flex → MayOwe g.source g.flex.pools → (p : Payload) → payload_at g.flex.machine (at to) ≡ Some p
+        → ServesLayout wanted.size wanted.align p → (at to ≢ addr → payload_at h.flex.machine (at to) ≡ None) → (at to ≢ addr → payload_at g.flex.machine addr ≡ None)
+        → ((a : ℕ) → a ≢ addr → a ≢ at to → payload_at g.flex.machine a ≡ payload_at h.flex.machine a) → Goes memory h g (λ a. (addr ≡ a) ⊎ (at to ≡ a))
+    moved flex owed p here serves new left others = record {
+      heap = record {
+        flex = flex;
+        owed = owed;
+        sorted = subst IsSorted (sym asked) (sorted_after new);
+        lists = subst (λ l. Lists l g.flex.machine) (sym asked)
+            (Lists-moved h.asked h.flex.machine g.flex.machine w.lists addr (to, wanted) (served g.flex.machine (at to) wanted p here serves)
+            (λ off. align_at-none g.flex.machine addr (left off)) (λ a off off_to. align_at-map h.flex.machine g.flex.machine a a (others a off off_to))
+            (λ a off off_to. bytes_at-map h.flex.machine g.flex.machine a a (others a off off_to)));
+      };
       others = λ a off.
           let one : a ≢ addr = λ same. off (inl (sym same)) in
           let two : a ≢ at to = λ same. off (inr (sym same)) in
@@ -220,33 +231,10 @@ module _ {memory : Range} (h : Heap) (w : IsHeap memory h) where
         let r : IsResizedInMap (payload_at h.flex.machine) addr wanted.size (at to) (payload_at g.flex.machine) = is.changes in
         let same : r.old.align ≡ wanted.align =
         same_Some r.old.align wanted.align (sym (align_at-told h.flex.machine addr r.old r.was) ∙ live_row h addr row w.lists there ∙ ap Some aligned) in
-        let serves = subst (λ n. ServesLayout wanted.size n r.now) same r.serves in
-        moved
-        (record {
-          flex = is.flex;
-          owed = is.owed;
-          sorted = sorted_after r.new;
-          lists =
-              Lists-moved h.asked h.flex.machine g.flex.machine w.lists addr (to, wanted) (served g.flex.machine (at to) wanted r.now r.here serves)
-              (λ off. align_at-none g.flex.machine addr (r.left off))
-              (λ a off off_to. align_at-map h.flex.machine g.flex.machine a a (r.others a off off_to))
-              (λ a off off_to. bytes_at-map h.flex.machine g.flex.machine a a (r.others a off off_to));
-        })
-        r.others
+        moved is.flex is.owed r.now r.here (subst (λ n. ServesLayout wanted.size n r.now) same r.serves) r.new r.left r.others
 
     -- into a payload that was allocated while the old one is live
     pub replaced : (keep : ℕ) → Replaces h addr keep wanted.size wanted.align (at to) g.flex g.source → Goes memory h g (λ a. (addr ≡ a) ⊎ (at to ≡ a))
     replaced keep step =
         let is = replacement h w addr row there g.flex g.source (at to) keep wanted step in
-        moved
-        (record {
-          flex = is.flex;
-          owed = is.owed;
-          sorted = sorted_after (λ off. is.new);
-          lists =
-              Lists-moved h.asked h.flex.machine g.flex.machine w.lists addr (to, wanted) (served g.flex.machine (at to) wanted is.now is.here is.serves)
-              (λ off. align_at-none g.flex.machine addr is.gone)
-              (λ a off off_to. align_at-map h.flex.machine g.flex.machine a a (is.others a off off_to))
-              (λ a off off_to. bytes_at-map h.flex.machine g.flex.machine a a (is.others a off off_to));
-        })
-        is.others
+        moved is.flex is.owed is.now is.here is.serves (λ off. is.new) (λ off. is.gone) is.others

@@ -1,49 +1,14 @@
 -- The reference model that asks a source for memory and returns it, on literals: its replies, its questions, the ranges that it
 -- returns, and its state after them.
-use Rattle.std.proofs.Common.{◌≡◌, ℕ, true, false, List, [], ◌∷◌, Option, Some, None, refl}
-use Rattle.rlsf_base.specs.declared.memory.range.Range.{Range}
+use Rattle.std.proofs.Common.{true, false, [], ◌∷◌, Some, None, refl}
 use Rattle.rlsf_base.specs.Range.{range_at}
-use Rattle.rlsf_model.specs.End.{notes_at_end}
-use Rattle.rlsf_model.specs.FlexRun.{FlexEvent}
-use Rattle.rlsf_model.specs.FlexState.{FlexState, KeptPool, flex_empty}
 use Rattle.rlsf_model.specs.Growth.{refused, growth_came, range_came}
-use Rattle.rlsf_model.specs.Note.{Note, alloc, grow, dealloc}
-use Rattle.rlsf_model.specs.Run.{Event, allocate, deallocate, trim}
+use Rattle.rlsf_model.specs.Note.{alloc, grow, dealloc}
+use Rattle.rlsf_model.specs.Run.{allocate, deallocate, trim}
 use Rattle.rlsf_model.specs.Terms.{Terms}
-use Rattle.rlsf_model.proofs.Examples.{Block, block, seen}
-use Rattle.rlsf_model.proofs.Worked.FlexRows.{attempt, growing_and_taking_back, pages}
-use Rattle.rlsf_model.proofs.TrimExamples.{Move, allocates, frees, gives_back, RunsWith, RunsWith-all, all_moved_by, all_moved_to, may_move_all}
-
--- a call with its reply, and what was asked or returned for it
-abbrev call : Event → List Note → FlexEvent
-call event notes = record { event = event; notes = notes }
-
--- These calls with their replies and notes lead from the empty state to a state. It has these used blocks, the newest first, these free
--- ranges and these ranges of the source, of which this is kept. At the end the source is passed these ranges
-record GivesWith (fllen sllen : ℕ) (t : Terms) (calls : List FlexEvent) (used : List Block) (free pools : List Range) (kept : Option KeptPool) (at_end : List Note) : Type 0 where
-  after : FlexState
-  run : RunsWith fllen sllen t flex_empty calls after
-  used_is : seen after.machine.used ≡ used
-  free_is : after.machine.free ≡ free
-  pools_are : after.pools ≡ pools
-  kept_is : after.kept ≡ kept
-  end_is : notes_at_end t after.pools ≡ at_end
-
--- what calls give, computed
-gives_with : (fllen sllen : ℕ) (t : Terms) (moves : List Move) → may_move_all fllen sllen t flex_empty moves ≡ true
-    → GivesWith fllen sllen t (all_moved_by fllen sllen t flex_empty moves) (seen (all_moved_to fllen sllen t flex_empty moves).machine.used)
-    (all_moved_to fllen sllen t flex_empty moves).machine.free
-    (all_moved_to fllen sllen t flex_empty moves).pools (all_moved_to fllen sllen t flex_empty moves).kept (notes_at_end t (all_moved_to fllen sllen t flex_empty moves).pools)
-gives_with fllen sllen t moves may =
-    record {
-      after = all_moved_to fllen sllen t flex_empty moves;
-      run = RunsWith-all fllen sllen t flex_empty moves may;
-      used_is = refl;
-      free_is = refl;
-      pools_are = refl;
-      kept_is = refl;
-      end_is = refl;
-    }
+use Rattle.rlsf_model.proofs.Examples.{block}
+use Rattle.rlsf_model.proofs.Worked.FlexRows.{GivesWith, attempt, call, gives_with, growing_and_taking_back, pages}
+use Rattle.rlsf_model.proofs.TrimExamples.{allocates, frees, gives_back}
 
 -- each range is returned once it holds no block, the newest first, and nothing is left for the end
 ranges_go_back_by_trims : GivesWith 8 8 pages
