@@ -47,11 +47,7 @@ LeavesCore-within {m = m} {n = n} {b = b} within same left =
 
 -- memories with the same start and the same bytes have the same state
 pub read_from-same : (m n : Space) (s : State) → n.start ≡ m.start → n.bytes ≡ m.bytes → read_from n s ≡ read_from m s
-read_from-same m n s start bytes = λ i. record {
-  chunks = s.chunks;
-  used = map (λ (u : Used). used_with_bytes u (take (usable u).len (drop ((usable u).start - start i) (bytes i)))) s.used;
-  free = s.free;
-}
+read_from-same m n s start bytes = grind arith
 
 -- ---- words were read
 
