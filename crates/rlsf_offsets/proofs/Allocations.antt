@@ -82,9 +82,6 @@ HasNoRoomFor-longer {units} {a} is m more f i reaches =
     let whole = w.free f i in
     let home = lies_in_chunk a.state (tiling_of w) f whole.some (IsPart-free a.state (tiling_of w) f i) in
     let chunk = w.chunks home.chunk home.is_chunk in
-    let from = home.from in
-    let to = home.to in
-    let start = is.start in
     let ends = chunk_end is home.chunk home.is_chunk in
     let long = Reaches-class_of 8 f.len whole.some (32 * m) (omega arith) reaches in
     omega (arith, chunk.lies_in.0)
@@ -107,21 +104,14 @@ module _ {units : ℕ} {a b : Allocator} (is : IsShadow units a) (after : IsShad
 
   is_place : (2 ^ 62 ≤ addr) × (addr ≡ place offset)
   is_place =
-      let w = after.stands.well_formed in
       let (u, held, same) = align_at-live b.state addr wide made.live in
-      let seat = seated w after.whole u held.0 in
-      let at = held.1 in
-      let low = seat.low in
-      let front = seat.front in
-      let even = seat.payload in
-      let start = after.start in
+      let seat = seated after.stands.well_formed after.whole u held.0 in
       (omega arith, omega arith)
 
   is_aligned : offset % align ≡ 0
   is_aligned =
-      let w = after.stands.well_formed in
       let (u, held, same) = align_at-live b.state addr wide made.live in
-      let divides : addr % wide ≡ 0 = subst (λ m. addr % m ≡ 0) same (subst (λ x. x % u.align ≡ 0) held.1 (IsUsed-aligned u (w.used u held.0))) in
+      let divides : addr % wide ≡ 0 = subst (λ m. addr % m ≡ 0) same (subst (λ x. x % u.align ≡ 0) held.1 (IsUsed-aligned u (after.stands.well_formed.used u held.0))) in
       let k = floor_log2 align in
       let few : k ≤ 56 = pow-between align k 56 (omega (arith, power)) (omega arith) in
       let q = addr / wide in
@@ -135,8 +125,6 @@ module _ {units : ℕ} {a b : Allocator} (is : IsShadow units a) (after : IsShad
   pub IsReserved-allocated : length b.memory.bytes ≡ length a.memory.bytes → IsReserved (offsets units a) (offsets units b) n align offset
   IsReserved-allocated long =
       let here = subst (IsAllocated a.state b.state size wide) is_place.1 made in
-      let sized = here.sized in
-      let few = here.few in
       let live : units_at (offsets units b) offset ≡ Some n = units_at-live (offsets units b) offset wide here.live ∙ ap (λ m. Some m) (omega arith) in
       let new : units_at (offsets units a) offset ≡ None = units_at-none (offsets units a) offset here.new in
       let others : (o : ℕ) → o ≢ offset → units_at (offsets units b) o ≡ units_at (offsets units a) o = λ o other.

@@ -39,25 +39,21 @@ module _ {units : ℕ} {a : Allocator} (is : IsShadow units a) where
       let inside = (w.chunks home.chunk home.is_chunk).lies_in in
       let from = home.from in
       let to = home.to in
-      let start = is.start in
       let ends = chunk_end is home.chunk home.is_chunk in
       subst (LiesInShadow units) (sym e) (record { from = omega (arith, inside.0); to = omega (arith, ends); some = more; even = has.whole.len })
   lies b (free i k) =
       let w = is.stands.well_formed in
       let f = w.free b.range i in
-      let more = f.some in
-      let home = lies_in_chunk a.state (tiling_of w) b.range more (IsPart-free a.state (tiling_of w) b.range i) in
+      let home = lies_in_chunk a.state (tiling_of w) b.range f.some (IsPart-free a.state (tiling_of w) b.range i) in
       let inside = (w.chunks home.chunk home.is_chunk).lies_in in
       let from = home.from in
       let to = home.to in
-      let start = is.start in
       let ends = chunk_end is home.chunk home.is_chunk in
-      record { from = omega (arith, inside.0); to = omega (arith, ends); some = more; even = f.whole.len }
+      record { from = omega (arith, inside.0); to = omega (arith, ends); some = f.some; even = f.whole.len }
 
   -- each address that a unit has is in a block
   block_with : (z : ℕ) → 2 ^ 62 - 32 ≤ z → z < 2 ^ 62 - 32 + 32 * units → (b : Block) × HasBlock a.state b × (b.range.start ≤ z) × (z < end_of b.range)
   block_with z from to =
-      let w = is.stands.well_formed in
       let any : 0 < units = omega arith in
       let c = whole_shadow units in
       let last : coverage last_bytes a.state.chunks z ≡ 0
@@ -67,7 +63,7 @@ module _ {units : ℕ} {a : Allocator} (is : IsShadow units a) where
       elim (cases_lt 0 (coverage itself a.state.free z)) [
         | inl some ↦ let (f, i, low, high) = coverage-some itself a.state.free z some in (record { range = f; is_occupied = false }, free i refl, low, high)
         | inr none ↦
-            let (u, i, low, high) = coverage-some block_of a.state.used z (omega (arith, w.tiled z)) in
+            let (u, i, low, high) = coverage-some block_of a.state.used z (omega (arith, is.stands.well_formed.tiled z)) in
             (record { range = u.block; is_occupied = true }, used u i refl refl, low, high)
       ]
 
@@ -91,9 +87,6 @@ module _ {units : ℕ} {a : Allocator} (is : IsShadow units a) where
       (λ i. ((are.exactly b).0 i).0),
       (λ has.
           let home = lies b has in
-          let from = home.from in
-          let to = home.to in
-          let some = home.some in
           let all = long (omega arith) in
           (are.exactly b).1 (has, omega arith, omega (arith, all))),
     );
@@ -176,15 +169,14 @@ AreSpaceTotals-blocks {units} {a} is bs t all of =
     let length_all = span bs (2 ^ 62 - 32) (2 ^ 62 - 32 + 32 * units) (omega arith) all.in_order (λ b i. ((home b i).from, (home b i).to, (home b i).some)) (λ z from to.
     let (b, has, low, high) = block_with is z from to in
     (b, (all.exactly b).1 has, low, high)) in
-    let in_used = of.used in
     let in_free = of.free in
     let longest = of.longest in
     record {
       blocks = bs;
       all = all;
       totals = of;
-      whole = omega (arith, length_all, sums.halves, in_used, in_free);
-      even = (omega (arith, sums.used_even, in_used), omega (arith, sums.free_even, in_free), omega (arith, sums.longest_even, longest));
+      whole = omega (arith, length_all, sums.halves, of.used, in_free);
+      even = (omega (arith, sums.used_even, of.used), omega (arith, sums.free_even, in_free), omega (arith, sums.longest_even, longest));
       longest = omega (arith, sums.longest_low, longest, in_free);
     }
 

@@ -107,8 +107,6 @@ module _ (unit : ℕ) (some : 0 < unit) where
     inside = λ o n told.
         let u = of_units v o n told in
         let inside = is.inside (o / unit) u.units u.live in
-        let first = u.first in
-        let len = u.len_is in
         (omega (arith, mul-le-mul_right unit inside.0), omega (arith, scaled (o / unit) u.units v.units unit inside.1));
     whole = λ o n told.
         let u = of_units v o n told in
@@ -116,10 +114,6 @@ module _ (unit : ℕ) (some : 0 < unit) where
     apart = λ o n p m told told' other.
         let u = of_units v o n told in
         let w = of_units v p m told' in
-        let u_first = u.first in
-        let w_first = w.first in
-        let u_len = u.len_is in
-        let w_len = w.len_is in
         let firsts : o / unit ≢ p / unit = λ same. other (u.first ∙ ap (λ (x : ℕ). x * unit) same ∙ sym w.first) in
         elim (is.apart (o / unit) u.units (p / unit) w.units u.live w.live firsts) [
           | inl before ↦ inl (omega (arith, scaled (o / unit) u.units (p / unit) unit before))
@@ -227,8 +221,6 @@ module _ (unit align : ℕ) (is_unit : IsPowerOfTwo unit) (is_align : IsPowerOfT
         aligned = aligned first made.aligned;
         apart = λ p m told.
             let u = of_units unit some v p m told in
-            let at = u.first in
-            let long = u.len_is in
             elim (made.apart (p / unit) u.units u.live) [
               | inl before ↦ inl (omega (arith, scaled (p / unit) u.units first unit before))
               | inr behind ↦ inr (omega (arith, scaled first n (p / unit) unit behind))
@@ -257,8 +249,6 @@ module _ (unit : ℕ) (some : 0 < unit) (v x : Offsets) (len o : ℕ) (live : Is
         inside = omega (arith, first, scaled (o / unit) n v.units unit made.inside);
         apart = λ p m other told.
             let u = of_units unit some v p m told in
-            let at = u.first in
-            let long = u.len_is in
             let firsts : p / unit ≢ o / unit = λ same. other (u.first ∙ ap (λ (y : ℕ). y * unit) same ∙ sym first) in
             elim (made.apart (p / unit) u.units firsts u.live) [
               | inl before ↦ inl (omega (arith, first, scaled (p / unit) u.units (o / unit) unit before))

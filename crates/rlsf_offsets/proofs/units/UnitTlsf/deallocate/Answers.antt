@@ -32,8 +32,5 @@ returns c =
     let e = c.deallocate_in.ensures in
     let v = offsets c.self.inside.units (allocator c.self.inside.memory c.self.inside.table c.self.inside.state.state) in
     let x = offsets c.self.inside.units (allocator c.deallocate_in.new.memory c.deallocate_in.new.table c.deallocate_in.new.state.state) in
-    rw (← c.self.view_is) (record {
-      released = IsReleased-deallocated c.args.first c.place_of-addr.result c.place_of-addr.ensures e.left.costs.length e.result;
-      sized = sized-freed v x e.bounds;
-      touches = e.left.costs.touches;
-    })
+    let released = IsReleased-deallocated c.args.first c.place_of-addr.result c.place_of-addr.ensures e.left.costs.length e.result in
+    rw (← c.self.view_is) (assumption (released, sized-freed v x e.bounds, e))
