@@ -2,7 +2,7 @@
 use Rattle.std.proofs.Common.{◌≡◌, ℕ, ◌+◌, ◌-◌, ◌*◌, ◌≤◌, cond, not, List, [], ◌∷◌, ◌++◌, length, map, take, drop, arith, refl, sym, ◌∙◌, ap}
 use Rattle.std.proofs.Common.{inl, inr}
 use Rattle.std.proofs.lemmas.Bool.{cases_lt}
-use Rattle.std.proofs.lemmas.List.{append_assoc, drop-drop, length-append, map-append, take-append-le}
+use Rattle.std.proofs.lemmas.List.{append-nil, append_assoc, drop-drop, length-append, map-append, take-append-le, take_all}
 use Rattle.std.proofs.lemmas.List.Elements.{filter-append}
 use Rattle.std.proofs.lemmas.List.Sums.{sum_by-append, sum_by-cons}
 use Rattle.std.proofs.Math.Seq.{drop-append-add, take-append-add}
@@ -74,11 +74,6 @@ total-le (b ∷ bs) low high order (first, rest) within =
 
 -- ---- lists
 
--- what lies behind the last element
-pub append-none : (l : List ℕ) → l ++ [] ≡ l
-append-none [] = refl
-append-none (x ∷ l) = ap (λ t. x ∷ t) (append-none l)
-
 numbers-append : (bs cs : List Block) → all_numbers (bs ++ cs) ≡ all_numbers bs ++ all_numbers cs
 numbers-append [] cs = refl
 numbers-append (b ∷ bs) cs = ap (λ l. numbers_of b ++ l) (numbers-append bs cs) ∙ sym (append_assoc (numbers_of b) (all_numbers bs) (all_numbers cs))
@@ -116,15 +111,11 @@ joined_listing bs cs was mid rest now n k first second is front back = record {
           let same : 3 * (n + k) ≡ 3 * n = omega (arith, none) in
           let short = take-append-le (3 * n) (all_numbers bs) (all_numbers cs) (omega (arith, full, numbers-length bs)) in
           sym (ap (λ i. take i (all_numbers (bs ++ cs))) same ∙ ap (take (3 * n)) (numbers-append bs cs) ∙ short
-          ∙ sym (ap (λ i. take (3 * n) (all_numbers bs) ++ take (3 * i) (all_numbers cs)) none ∙ append-none (take (3 * n) (all_numbers bs))))
+          ∙ sym (ap (λ i. take (3 * n) (all_numbers bs) ++ take (3 * i) (all_numbers cs)) none ∙ append-nil (take (3 * n) (all_numbers bs))))
       | inr all ↦
           let long : 3 * n ≡ length (all_numbers bs) = omega (arith, all, first.count, numbers-length bs) in
           let same : 3 * (n + k) ≡ length (all_numbers bs) + 3 * k = omega (arith, long) in
-          ap (λ l. l ++ take (3 * k) (all_numbers cs)) (ap (λ i. take i (all_numbers bs)) long ∙ whole (all_numbers bs))
+          ap (λ l. l ++ take (3 * k) (all_numbers cs)) (ap (λ i. take i (all_numbers bs)) long ∙ take_all (length (all_numbers bs)) (all_numbers bs) (omega arith))
           ∙ sym (take-append-add (all_numbers bs) (all_numbers cs) (3 * k)) ∙ ap (λ i. take i (all_numbers bs ++ all_numbers cs)) (sym same)
           ∙ ap (take (3 * (n + k))) (sym (numbers-append bs cs))
     ]
-      where
-        whole : (l : List ℕ) → take (length l) l ≡ l
-        whole [] = refl
-        whole (x ∷ l) = ap (λ t. x ∷ t) (whole l)

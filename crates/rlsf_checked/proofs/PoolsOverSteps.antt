@@ -207,26 +207,30 @@ last_chunk {p = p} is =
     let (c, i, from, low, high, to) = is.row (end_of p - 1) (omega (arith, room)) (omega (arith, room)) in
     (c, i, omega (arith, room, high, to))
 
--- the chunks of a range that begins where a chunk ends don't end behind what is appended of it
-appended-below : (fllen : ℕ) (s : State) (r : Range) → r.start % 32 ≡ 0 → (n : ℕ) → n ≡ appended_bytes (max_pool_size fllen) r
-    → ((c : Range) → IsIn c s.chunks → end_of c ≤ r.start)
-    → (c : Range) → IsIn c (appended (max_pool_size fllen) r s).chunks → end_of c ≤ r.start + n
-appended-below fllen s r whole n told below = go (max_pool_size fllen) refl told
+-- The chunks of a range that begins where a chunk ends don't end behind what is appended of it. Each was there, or doesn't begin before an
+-- address at which the chunk that ends there doesn't begin either
+appended-chunks : (fllen : ℕ) (s : State) (r : Range) (start : ℕ) → r.start % 32 ≡ 0 → start < r.start → (n : ℕ) → n ≡ appended_bytes (max_pool_size fllen) r
+    → ((c : Range) → IsIn c s.chunks → (end_of c ≤ r.start) × (end_of c ≡ r.start → start ≤ c.start))
+    → (c : Range) → IsIn c (appended (max_pool_size fllen) r s).chunks → (end_of c ≤ r.start + n) × (IsIn c s.chunks ⊎ (start ≤ c.start))
+appended-chunks fllen s r start whole before n told old = go (max_pool_size fllen) refl told
   where
-    grown-below : (k : ℕ) (o : Option Range) → find (ends_at r.start) s.chunks ≡ o → (c : Range) → IsIn c (grown_if o k s).chunks → end_of c ≤ r.start + k
-    grown-below k None found c i = omega (arith, below c i)
-    grown-below k (Some d) found c (inl same) =
-        let ends : end_of d ≡ r.start = eqb-true (end_of d) r.start (find-some (ends_at r.start) d s.chunks found).1 in
+    grown-chunks : (k : ℕ) (o : Option Range) → find (ends_at r.start) s.chunks ≡ o → (c : Range) → IsIn c (grown_if o k s).chunks
+        → (end_of c ≤ r.start + k) × (IsIn c s.chunks ⊎ (start ≤ c.start))
+    grown-chunks k None found c i = (omega (arith, (old c i).0), inl i)
+    grown-chunks k (Some d) found c (inl same) =
+        let (held, passes) = find-some (ends_at r.start) d s.chunks found in
+        let ends : end_of d ≡ r.start = eqb-true (end_of d) r.start passes in
         let long : end_of c ≡ d.start + (d.len + k) = ap end_of same in
-        omega (arith, ends, long)
-    grown-below k (Some d) found c (inr j) = omega (arith, below c (IsIn-without (ends_at (end_of d)) c s.chunks j))
+        (omega (arith, ends, long), inr (omega (arith, (old d held).1 ends, ap (λ (x : Range). x.start) same)))
+    grown-chunks k (Some d) found c (inr j) = let i = IsIn-without (ends_at (end_of d)) c s.chunks j in (omega (arith, (old c i).0), inl i)
 
-    extended-below : (k : ℕ) → (c : Range) → IsIn c (extended r.start k s).chunks → end_of c ≤ r.start + k
-    extended-below zero c i = omega (arith, below c i)
-    extended-below (suc k) c i = grown-below (suc k) (find (ends_at r.start) s.chunks) refl c i
+    extended-chunks : (k : ℕ) → (c : Range) → IsIn c (extended r.start k s).chunks → (end_of c ≤ r.start + k) × (IsIn c s.chunks ⊎ (start ≤ c.start))
+    extended-chunks zero c i = (omega (arith, (old c i).0), inl i)
+    extended-chunks (suc k) c i = grown-chunks (suc k) (find (ends_at r.start) s.chunks) refl c i
 
-    go : (o : Option ℕ) → max_pool_size fllen ≡ o → n ≡ appended_bytes o r → (c : Range) → IsIn c (appended o r s).chunks → end_of c ≤ r.start + n
-    go None same e c i = omega (arith, extended-below (r.len / 32 * 32) c i, e)
+    go : (o : Option ℕ) → max_pool_size fllen ≡ o → n ≡ appended_bytes o r → (c : Range) → IsIn c (appended o r s).chunks
+        → (end_of c ≤ r.start + n) × (IsIn c s.chunks ⊎ (start ≤ c.start))
+    go None same e c i = let (below, was) = extended-chunks (r.len / 32 * 32) c i in (omega (arith, below, e), was)
     go (Some most) same e c i =
         let cs = cut (Some most) (aligned_part r) in
         let at : (aligned_part r).start ≡ r.start = omega (arith, whole) in
@@ -235,34 +239,9 @@ appended-below fllen s r whole n told below = go (max_pool_size fllen) refl told
               let (from, to, within, some) = end_of-cut fllen (aligned_part r) c (subst (λ o. IsIn c (cut o (aligned_part r))) (sym same) made) in
               let last : end_of_last (aligned_part r).start (cut (max_pool_size fllen) (aligned_part r)) ≡ end_of_last r.start cs =
               ap (λ o. end_of_last (aligned_part r).start (cut o (aligned_part r))) same ∙ ap (λ a. end_of_last a cs) at in
-              omega (arith, to, last, e)
-          | inr old ↦ omega (arith, below c old)
+              (omega (arith, to, last, e), inr (omega (arith, from, before, round32-le r.start)))
+          | inr j ↦ (omega (arith, (old c j).0), inl j)
         ]
-
--- and each was there, or doesn't begin before an address at which the chunk that ends there doesn't begin either
-appended-old : (fllen : ℕ) (s : State) (r : Range) (start : ℕ) → start < r.start → ((c : Range) → IsIn c s.chunks → end_of c ≡ r.start → start ≤ c.start)
-    → (c : Range) → IsIn c (appended (max_pool_size fllen) r s).chunks → IsIn c s.chunks ⊎ (start ≤ c.start)
-appended-old fllen s r start before last = go (max_pool_size fllen) refl
-  where
-    grown-old : (k : ℕ) (o : Option Range) → find (ends_at r.start) s.chunks ≡ o → (c : Range) → IsIn c (grown_if o k s).chunks → IsIn c s.chunks ⊎ (start ≤ c.start)
-    grown-old k None found c i = inl i
-    grown-old k (Some d) found c (inl same) =
-        let (held, passes) = find-some (ends_at r.start) d s.chunks found in
-        inr (omega (arith, last d held (eqb-true (end_of d) r.start passes), ap (λ (x : Range). x.start) same))
-    grown-old k (Some d) found c (inr j) = inl (IsIn-without (ends_at (end_of d)) c s.chunks j)
-
-    extended-old : (k : ℕ) → (c : Range) → IsIn c (extended r.start k s).chunks → IsIn c s.chunks ⊎ (start ≤ c.start)
-    extended-old zero c i = inl i
-    extended-old (suc k) c i = grown-old (suc k) (find (ends_at r.start) s.chunks) refl c i
-
-    go : (o : Option ℕ) → max_pool_size fllen ≡ o → (c : Range) → IsIn c (appended o r s).chunks → IsIn c s.chunks ⊎ (start ≤ c.start)
-    go None same c i = extended-old (r.len / 32 * 32) c i
-    go (Some most) same c i = elim (IsIn-with_chunks c (cut (Some most) (aligned_part r)) s i) [
-      | inl made ↦
-          let (from, to, within, some) = end_of-cut fllen (aligned_part r) c (subst (λ o. IsIn c (cut o (aligned_part r))) (sym same) made) in
-          inr (omega (arith, from, before, round32-le r.start))
-      | inr old ↦ inl old
-    ]
 
 -- no more is taken than the range has, and where nothing is, nothing changes
 pub appended-le : (fllen : ℕ) (s : State) (r : Range) → (appended_bytes (max_pool_size fllen) r ≤ r.len) × ((t : State) → Appends fllen s r 0 t → t ≡ s)
@@ -354,8 +333,9 @@ module _ {fllen sllen : ℕ} {v : Allocator} {m : Codes ℕ} {pools : PoolList} 
       homes : (c : Range) → IsIn c w.state.chunks → (p : Range) × IsOneOf p (with_longer_last pools n) × (p.start ≤ c.start) × (end_of c ≤ end_of p)
       homes c i =
           let j = subst (λ (x : State). IsIn c x.chunks) step.after i in
-          let to = appended-below fllen v.state r whole_start n step.answer (λ d k. omega (arith, below is d k, next)) c j in
-          elim (appended-old fllen v.state r pools.last.start (omega (arith, next, some)) at_end c j) [
+          let (to, was) = appended-chunks fllen v.state r pools.last.start whole_start (omega (arith, next, some)) n step.answer
+          (λ d k. (omega (arith, below is d k, next), at_end d k)) c j in
+          elim was [
             | inr from ↦ (range_at pools.last.start (pools.last.len + n), inr (refl, omega (arith, some)), from, omega (arith, to, next))
             | inl old ↦
                 let (p, one, from, end) = is.pools.homes c old in

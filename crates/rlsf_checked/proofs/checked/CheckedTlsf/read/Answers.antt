@@ -1,9 +1,9 @@
-use Rattle.std.proofs.Common.{rules, arith, ◌≡◌, ◌+◌, refl, cond, nat_le, Ok, Err, length, sym, ◌∙◌, ap, subst}
+use Rattle.std.proofs.Common.{rules, arith, ◌≡◌, ◌+◌, refl, nat_le, length, sym, ◌∙◌, ap}
 use Rattle.std.proofs.lemmas.Bool.{leb-true}
 use Rattle.rlsf_base.specs.Addr.{at}
 use Rattle.rlsf_model.specs.Callers.{bytes_at}
 use Rattle.rlsf_checked.specs.Answers.{fits, if_in_range}
-use Rattle.rlsf_checked.specs.declared.error.CheckedError.TheVariants.{OutOfRange}
+use Rattle.rlsf_checked.proofs.InRange.{at_live}
 use Rattle.rlsf_checked.proofs.checked.CheckedTlsf.read.Given as given
 use Rattle.rlsf_checked.proofs.checked.CheckedTlsf.read.Goals as goal
 use Rattle.rlsf_checked.proofs.checked.CheckedTlsf.read.Goals.{After-reaches}
@@ -26,9 +26,7 @@ returns-then-not-reaches g c =
     let live = rw (← c.self.view_is) at c.in-Some.ensures.value in
     let told = sym c.if-not-reaches.true ∙ reach g (goal.at.returns-then-not-reaches g c).After-reaches in
     rw (← c.self.view_is) (record {
-      answer =
-          subst (λ o. Err OutOfRange ≡ if_in_range o (fits c.args.offset (length c.args.bytes.now) (bytes_at c.self.inside.heap.state (at c.args.addr)))) live
-          (ap (λ b. cond b (Ok tt) (Err OutOfRange)) told);
+      answer = at_live live told;
       read = tt;
       refused = refl;
     })
@@ -38,9 +36,7 @@ returns g c =
     let live = rw (← c.self.view_is) at c.in-Some.ensures.value in
     let told = sym c.if-not-reaches.false ∙ reach g (goal.at.returns g c).After-reaches in
     rw (← c.self.view_is) (record {
-      answer =
-          subst (λ o. Ok tt ≡ if_in_range o (fits c.args.offset (length c.args.bytes.now) (bytes_at c.self.inside.heap.state (at c.args.addr)))) live
-          (ap (λ b. cond b (Ok tt) (Err OutOfRange)) told);
+      answer = at_live live told;
       read = search rules;
       refused = tt;
     })
