@@ -52,10 +52,7 @@ pub record IsPlace (v : Allocator) (addr align : ℕ) : Type 0 where
 -- a multiple of a number that isn't 0 is at least that number
 divisor-le : (n m : ℕ) → 0 < n → n % m ≡ 0 → m ≤ n
 divisor-le n zero some whole = omega arith
-divisor-le n (suc m) some whole = elim (cases_lt n (suc m)) [
-  | inl short ↦ absurd (omega (arith, mod-eq_of_lt short))
-  | inr enough ↦ enough
-]
+divisor-le n (suc m) some whole = grind (arith, cases_lt, mod-eq_of_lt)
 
 pub live_place : (fllen sllen : ℕ) (v : Allocator) → Stands fllen sllen v → (addr align : ℕ) → align_at v.state addr ≡ Some align → IsPlace v addr align
 unfolding Stands
@@ -180,6 +177,4 @@ size_fits layout size align long aligned = ap (λ t. cond t None (Some NoLayout)
 
 -- with those of none, one is
 pub size_past : (size align : ℕ) → IsPowerOfTwo align → (IsLayout size align → ⊥) → size_refusal (Some align) size ≡ Some NoLayout
-size_past size align power none =
-    let past : 2 ^ 63 < size + align = elim (cases_lt (2 ^ 63) (size + align)) [ inl above ↦ above | inr fits ↦ absurd (none (record { aligned = power; fits = fits })) ] in
-    ap (λ t. cond t None (Some NoLayout)) (lt-leb (size + align) (2 ^ 63) past)
+size_past size align power none = grind (arith, cases_lt, lt-leb)

@@ -1,5 +1,5 @@
 -- The totals and the lists of blocks that come one behind another.
-use Rattle.std.proofs.Common.{◌≡◌, ℕ, ◌+◌, ◌-◌, ◌*◌, ◌≤◌, cond, not, List, [], ◌∷◌, ◌++◌, length, map, take, drop, arith, refl, sym, ◌∙◌, ap}
+use Rattle.std.proofs.Common.{◌≡◌, ℕ, ◌+◌, ◌-◌, ◌*◌, ◌≤◌, cond, not, List, [], ◌∷◌, ◌++◌, length, take, drop, arith, refl, sym, ◌∙◌, ap}
 use Rattle.std.proofs.Common.{inl, inr}
 use Rattle.std.proofs.lemmas.Bool.{cases_lt}
 use Rattle.std.proofs.lemmas.List.{append-nil, append_assoc, drop-drop, length-append, map-append, take-append-le, take_all}
@@ -23,19 +23,7 @@ greatest-append (n ∷ ns) ms = omega (arith, greatest-append ns ms)
 
 pub joined_totals : (bs cs : List Block) (t u w : Totals) → AreTotalsOf bs t → AreTotalsOf cs u → w.payloads ≡ t.payloads + u.payloads → w.used ≡ t.used + u.used
     → w.free ≡ t.free + u.free → w.longest ≡ max t.longest u.longest → AreTotalsOf (bs ++ cs) w
-joined_totals bs cs t u w first second payloads used free longest =
-    let uses = filter-append (λ (b : Block). b.is_occupied) bs cs in
-    let frees = filter-append (λ (b : Block). not b.is_occupied) bs cs in
-    let len = λ (b : Block). b.range.len in
-    record {
-      payloads = omega (arith, payloads, first.payloads, second.payloads, ap (λ (l : List Block). length l) uses, length-append (used_of bs) (used_of cs));
-      used = omega (arith, used, first.used, second.used, ap total uses, sum_by-append len (used_of bs) (used_of cs));
-      free = omega (arith, free, first.free, second.free, ap total frees, sum_by-append len (free_of bs) (free_of cs));
-      longest =
-          longest ∙ ap (λ n. max n u.longest) first.longest ∙ ap (λ n. max (greatest (map len (free_of bs))) n) second.longest
-          ∙ sym (greatest-append (map len (free_of bs)) (map len (free_of cs))) ∙ ap greatest (sym (map-append len (free_of bs) (free_of cs)))
-          ∙ ap (λ l. greatest (map len l)) (sym frees);
-    }
+joined_totals bs cs t u w first second payloads used free longest = grind (arith, filter-append, not, length-append, sum_by-append, greatest-append, map-append)
 
 total_more : (b : Block) (bs : List Block) → total (used_of (b ∷ bs)) + total (free_of (b ∷ bs)) ≡ b.range.len + (total (used_of bs) + total (free_of bs))
 total_more b bs = by_test b.is_occupied
@@ -54,15 +42,7 @@ total_more b bs = by_test b.is_occupied
 
 pub total-append : (bs cs : List Block) → total (used_of (bs ++ cs)) + total (free_of (bs ++ cs))
     ≡ total (used_of bs) + total (free_of bs) + (total (used_of cs) + total (free_of cs))
-total-append bs cs =
-    let len = λ (b : Block). b.range.len in
-    omega (
-      arith,
-      ap total (filter-append (λ (b : Block). b.is_occupied) bs cs),
-      ap total (filter-append (λ (b : Block). not b.is_occupied) bs cs),
-      sum_by-append len (used_of bs) (used_of cs),
-      sum_by-append len (free_of bs) (free_of cs),
-    )
+total-append bs cs = grind (arith, filter-append, not, sum_by-append)
 
 -- blocks in order between two addresses have no more bytes than lie there
 pub total-le : (bs : List Block) (low high : ℕ) → low ≤ high → IsInOrder bs → ((b : Block) → IsIn b bs → (low ≤ b.range.start) × (end_of b.range ≤ high))

@@ -6,7 +6,6 @@ use Rattle.rlsf_base.specs.declared.memory.layout.Layout.{Layout}
 use Rattle.rlsf_base.specs.Layout.{IsLayout}
 use Rattle.rlsf_base.specs.PowerOfTwo.{IsPowerOfTwo}
 use Rattle.rlsf_model.specs.Callers.{align_at}
-use Rattle.rlsf_model.specs.Sized.{IsSizedFor}
 use Rattle.rlsf_model.specs.State.{State}
 use Rattle.rlsf_tlsf.specs.Bounds.{KeepsBounds}
 use Rattle.rlsf_checked.specs.Answers.{IsRefusedBy, refusal_at, size_refusal}
@@ -16,6 +15,7 @@ use Rattle.rlsf_checked.specs.Sizing.{KeepsBoundsSameAlign, TakesCheckedRoomAgai
 use Rattle.rlsf_checked.specs.declared.error.CheckedError.{CheckedError}
 use Rattle.rlsf_checked.specs.declared.error.CheckedError.TheVariants.{NoLayout, NoRoom, UnknownAddress}
 use Rattle.rlsf_checked.proofs.FieldsOverSteps.{size_fits, size_past}
+use Rattle.rlsf_checked.proofs.Unchanged.{refusing}
 
 pub unknown_is_refused : (size : ℕ) (align : Option ℕ) → None ≡ align → size_refusal align size ≡ Some UnknownAddress
 unknown_is_refused size align none = subst (λ o. size_refusal o size ≡ Some UnknownAddress) none refl
@@ -32,15 +32,11 @@ never {e = e} refused none = absurd (none-some e (sym none ∙ refused))
 -- so no room is promised for it
 pub no_room_again : {A : Type 0} {sllen : ℕ} {s t : State} {addr size : ℕ} {e f : CheckedError} → refusal_at s addr size ≡ Some e
     → TakesCheckedRoomAgain {A = A} sllen s t addr size (Err f)
-no_room_again refused = record {
-  bounds = λ count most align sized few short fits fine. never refused fine;
-  budget = λ count bytes most align sized few little short fits fine. never refused fine;
-  bytes = λ align live. tt;
-}
+no_room_again refused = grind (arith, never)
 
 -- and nothing changes
 pub refuses : {A : Type 0} {v : Checked} {o : Option CheckedError} {e : CheckedError} → o ≡ Some e → RefusesUnchanged {A = A} v v (IsRefusedBy {A = A} o (Err e)) (Err e)
-refuses {A = A} {e = e} refused = record { answer = subst (λ p. IsRefusedBy {A = A} p (Err e)) (sym refused) refl; same = refl; pools = refl; bytes = refl }
+refuses {A = A} {e = e} refused = refusing (subst (λ p. IsRefusedBy {A = A} p (Err e)) (sym refused) refl)
 
 -- a layout that a live payload's alignment has with the size is asked for
 module _ (s : State) (addr : ℕ) {size align : ℕ} (layout : Layout) (long : layout.size ≡ size) (wide : layout.align ≡ align) (live : Some align ≡ align_at s addr) where

@@ -1,10 +1,10 @@
 -- A core after a call.
-use Rattle.std.proofs.Common.{◌≡◌, ℕ, ◌+◌, ◌-◌, ◌≤◌, arith, drop, map, take, sym, ◌∙◌, ap, subst}
+use Rattle.std.proofs.Common.{◌≡◌, ℕ, ◌+◌, ◌-◌, ◌≤◌, arith, sym, ◌∙◌, ap, subst}
 use Rattle.rlsf_base.proofs.Lending.Present.{out-same, own-same}
 use Rattle.rlsf_base.specs.OpenSpace.{SameOwn, StaysHere}
 use Rattle.rlsf_base.specs.SizeClass.{IsValid}
 use Rattle.rlsf_base.specs.Space.{Space}
-use Rattle.rlsf_model.specs.State.{State, Used, usable, used_with_bytes}
+use Rattle.rlsf_model.specs.State.{State}
 use Rattle.rlsf_table.specs.Counts.{Costs, Counts}
 use Rattle.rlsf_table.specs.Table.{Table}
 use Rattle.rlsf_table.proofs.Costs.{Costs-counted, Costs-then, Costs-within}

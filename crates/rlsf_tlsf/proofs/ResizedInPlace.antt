@@ -1,5 +1,5 @@
 -- A payload gets another size without moving, or can't.
-use Rattle.std.proofs.Common.{◌≡◌, ◌-◌, ◌+◌, ◌<◌, ◌^◌, ℕ, Bool, false, None, length, arith, sym, ap, subst}
+use Rattle.std.proofs.Common.{◌≡◌, ◌-◌, ◌+◌, ◌<◌, ◌^◌, ℕ, Bool, false, None, length, arith, ap, subst}
 use Rattle.rlsf_base.specs.Layout.{IsLayout}
 use Rattle.rlsf_base.specs.OpenSpace.{IsOwned}
 use Rattle.rlsf_base.specs.Space.{Space}

@@ -17,14 +17,16 @@ mark_of-requires g c = subst IsPowerOfTwo (sym c.align.ensures.value) c.args.lay
 pub set-requires : goal.set-requires
 set-requires g c =
     let did = c.in-Some.ensures in
-    has_mark c.self.invariant c.allocate_zeroed.new.self (stands_after _ _ _ _ _ did.step) did.frame.place c.get.result _ c.args.layout.align c.get.ensures.value did.result.made.live
+    has_mark c.self.invariant c.allocate_zeroed.new.self (stands_after _ _ _ _ _ did.step) did.frame.place c.get.result _ c.args.layout.align c.get.ensures.value
+    did.result.made.live
 
 pub invariant_of-self-2 : goal.invariant_of-self-2
 invariant_of-self-2 g c =
     let did = c.in-Some.ensures in
     marked_at c.self.invariant c.allocate_zeroed.new.self c.set.new.self c.get.result (at c.in-Some.addr) c.get.ensures.value (stands_after _ _ _ _ _ did.step) did.frame.place
     did.frame.chunks c.set.ensures.places
-    (c.set.ensures.here ∙ c.mark_of.ensures ∙ ap (λ n. suc (floor_log2 n)) c.align.ensures.value ∙ sym (ap mark_of did.result.made.live)) c.set.ensures.others did.result.made.aligns
+    (c.set.ensures.here ∙ c.mark_of.ensures ∙ ap (λ n. suc (floor_log2 n)) c.align.ensures.value ∙ sym (ap mark_of did.result.made.live))
+    c.set.ensures.others did.result.made.aligns
 
 pub returns-in_default : goal.returns-in_default
 returns-in_default g c = rw (← c.self.view_is) (assumption c.in_default.ensures)

@@ -10,7 +10,7 @@ use Rattle.rlsf_checked.specs.Steps.Lists.{listed}
 use Rattle.rlsf_checked.specs.Steps.Standing.{IsChecked}
 use Rattle.rlsf_checked.proofs.PoolsOverSteps.{appended_fits, handed_on, next_answer, next_is, next_range, none_apart, none_appended, none_outside, pool_fits, some_appended, within_is}
 use Rattle.rlsf_checked.proofs.FieldsOverSteps.{stands_after, step_of, unchanged}
-use Rattle.rlsf_checked.proofs.Unchanged.{frame_unchanged}
+use Rattle.rlsf_checked.proofs.Unchanged.{frame_unchanged, refusing}
 use Rattle.rlsf_checked.proofs.checked.CheckedTlsf.append.Given as given
 use Rattle.rlsf_checked.proofs.checked.CheckedTlsf.append.Goals as goal
 use Rattle.rlsf_checked.proofs.checked.CheckedTlsf.append.Goals.{After-append_free_block_ptr-taken, Else-not-is_next, Then-taken-eq0}
@@ -82,7 +82,7 @@ returns-then-not-lies_in g c =
       result = tt;
       bounds = assumption;
       room = assumption;
-      refused = record { answer = sym (none_outside g.row.FLLEN (checked c.self.inside.heap (listed c.self.inside.pools)) c.args.range outside); same = refl; pools = refl; bytes = refl };
+      refused = refusing (sym (none_outside g.row.FLLEN (checked c.self.inside.heap (listed c.self.inside.pools)) c.args.range outside));
       frame = frame_unchanged _;
       touches = omega arith;
     })
@@ -97,7 +97,7 @@ returns-then-not-is_next g c =
       result = tt;
       bounds = assumption;
       room = assumption;
-      refused = record { answer = sym (none_apart g.row.FLLEN (checked c.self.inside.heap (listed c.self.inside.pools)) c.args.range within apart); same = refl; pools = refl; bytes = refl };
+      refused = refusing (sym (none_apart g.row.FLLEN (checked c.self.inside.heap (listed c.self.inside.pools)) c.args.range within apart));
       frame = frame_unchanged _;
       touches = omega arith;
     })

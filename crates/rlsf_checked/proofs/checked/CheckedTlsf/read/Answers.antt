@@ -24,9 +24,8 @@ returns-in_default g c = record {
 pub returns-then-not-reaches : goal.returns-then-not-reaches
 returns-then-not-reaches g c =
     let live = rw (← c.self.view_is) at c.in-Some.ensures.value in
-    let told = sym c.if-not-reaches.true ∙ reach g (goal.at.returns-then-not-reaches g c).After-reaches in
     rw (← c.self.view_is) (record {
-      answer = at_live live told;
+      answer = at_live live (sym c.if-not-reaches.true ∙ reach g (goal.at.returns-then-not-reaches g c).After-reaches);
       read = tt;
       refused = refl;
     })
@@ -34,19 +33,16 @@ returns-then-not-reaches g c =
 pub returns : goal.returns
 returns g c =
     let live = rw (← c.self.view_is) at c.in-Some.ensures.value in
-    let told = sym c.if-not-reaches.false ∙ reach g (goal.at.returns g c).After-reaches in
     rw (← c.self.view_is) (record {
-      answer = at_live live told;
+      answer = at_live live (sym c.if-not-reaches.false ∙ reach g (goal.at.returns g c).After-reaches);
       read = search rules;
       refused = tt;
     })
 
 pub overflow_add-offset : goal.overflow_add-offset
 overflow_add-offset g c =
-    let fits = leb-true (c.args.offset + length c.args.bytes.now) (length c.payload-payload.result.now) (sym c.reaches.ensures ∙ c.if-not-reaches.false) in
-    omega (arith, fits)
+    omega (arith, leb-true (c.args.offset + length c.args.bytes.now) (length c.payload-payload.result.now) (sym c.reaches.ensures ∙ c.if-not-reaches.false))
 
 pub slice_bounds-copy_from_slice-end : goal.slice_bounds-copy_from_slice-end
 slice_bounds-copy_from_slice-end g c =
-    let fits = leb-true (c.args.offset + length c.args.bytes.now) (length c.payload-payload.result.now) (sym c.reaches.ensures ∙ c.if-not-reaches.false) in
-    omega (arith, fits)
+    omega (arith, leb-true (c.args.offset + length c.args.bytes.now) (length c.payload-payload.result.now) (sym c.reaches.ensures ∙ c.if-not-reaches.false))

@@ -100,7 +100,7 @@ returns-in_default-reallocate g c =
         bytes = λ align live. tt;
       };
       bounds = bounds_kept c.self.inside.heap.state (at c.args.addr) c.in-Ok.layout size align live g.row.SLLEN c.reallocate.new.self.state did.bounds;
-      refused = record { answer = not_refused c.self.inside.heap.state (at c.args.addr) c.in-Ok.layout size align live {A = NonZeroUsize} (Err NoRoom) refl; same = did.refused.same; pools = refl; bytes = did.refused.bytes };
+      refused = assumption (not_refused c.self.inside.heap.state (at c.args.addr) c.in-Ok.layout size align live {A = NonZeroUsize} (Err NoRoom) refl, did.refused);
       frame = frame_moving g (goal.at.returns-in_default-reallocate g c).After-reallocate;
       touches = did.touches;
     })
@@ -137,7 +137,7 @@ returns g c =
             (λ i. (size i, sym same i)) (did.room.bytes refl);
       };
       bounds = bounds_kept c.self.inside.heap.state (at c.args.addr) c.in-Ok.layout size align live g.row.SLLEN c.reallocate.new.self.state did.bounds;
-      refused = record { answer = not_refused c.self.inside.heap.state (at c.args.addr) c.in-Ok.layout size align live (Ok c.in-Some-reallocate.moved) tt; same = tt; pools = tt; bytes = tt };
+      refused = assumption (not_refused c.self.inside.heap.state (at c.args.addr) c.in-Ok.layout size align live (Ok c.in-Some-reallocate.moved) (tt {0}));
       frame = frame_moving g (goal.at.returns g c).After-reallocate;
       touches = did.touches;
     })

@@ -65,7 +65,7 @@ returns-in_default-reallocate_no_move g c =
       step = λ fits. subst (λ n. Steps g.row.FLLEN g.row.SLLEN heap c.reallocate_no_move.new.self (ReallocatesWithoutMove heap.state (at c.args.addr) n None)) size did.step;
       result = tt;
       bounds = bounds_kept c.self.inside.heap.state (at c.args.addr) c.in-Ok.layout size align live g.row.SLLEN c.reallocate_no_move.new.self.state did.bounds;
-      refused = record { answer = not_refused c.self.inside.heap.state (at c.args.addr) c.in-Ok.layout size align live {A = NonZeroUsize} (Err NoRoom) refl; same = did.refused.same; pools = refl; bytes = did.refused.bytes };
+      refused = assumption (not_refused c.self.inside.heap.state (at c.args.addr) c.in-Ok.layout size align live {A = NonZeroUsize} (Err NoRoom) refl, did.refused);
       frame = frame_in_place g (goal.at.returns-in_default-reallocate_no_move g c).After-reallocate_no_move;
       touches = did.touches;
     })

@@ -1,4 +1,4 @@
-use Rattle.std.proofs.Common.{refl, ◌≡◌, ◌+◌, ◌≤◌, ℕ, List, nat_le, sym, subst, length, arith, ◌∙◌, ap}
+use Rattle.std.proofs.Common.{◌≡◌, ◌+◌, ◌≤◌, ℕ, List, nat_le, sym, subst, length, arith, ◌∙◌, ap}
 use Rattle.std.proofs.lemmas.Bool.{leb-true}
 use Rattle.std.specs.List.{splice}
 use Rattle.rlsf_base.specs.Addr.{at}
@@ -51,7 +51,6 @@ returns-then-not-reaches g c =
 pub returns : goal.returns
 returns g c =
     let live = rw (← c.self.view_is) at c.in-Some.ensures.value in
-    let told = sym c.if-not-reaches.false ∙ reach g (goal.at.returns g c).After-reaches in
     let did = c.payload_mut.ensures in
     let heap = c.self.inside.heap in
     let addr = at c.args.addr in
@@ -66,7 +65,7 @@ returns g c =
       result = did.filled w c.write_at.ensures.len ∙ is;
       bounds = did.bounds w;
       blocks = did.blocks w;
-      refused = assumption (at_live live told);
+      refused = assumption (at_live live (sym c.if-not-reaches.false ∙ reach g (goal.at.returns g c).After-reaches));
       frame = assumption (did.aligns w, did.bytes w, did.count w, did.rest w, grow);
       touches = omega (arith, touches);
     })
