@@ -20,7 +20,7 @@ use Rattle.rlsf_model.specs.Sized.{live_count}
 use Rattle.rlsf_model.specs.State.{State, Used}
 use Rattle.rlsf_model.proofs.CallerWords.{align_at-live}
 use Rattle.rlsf_model.proofs.Payloads.{IsUsed-aligned}
-use Rattle.rlsf_model.proofs.Tiling.{tiling_of, lies_in_chunk, IsPart-free}
+use Rattle.rlsf_model.proofs.Tiling.{tiling_of, IsPart-free}
 use Rattle.rlsf_model.proofs.Room.{refused_without_reach}
 use Rattle.rlsf_tlsf.specs.Allocator.{Allocator}
 use Rattle.rlsf_tlsf.specs.Results.{IsAllocated}
@@ -28,7 +28,8 @@ use Rattle.rlsf_offsets.specs.Units.{AreWhole, HasNoRoomFor, IsSizedForUnits, Su
 use Rattle.rlsf_model.specs.Sized.{IsSizedFor}
 use Rattle.rlsf_model.proofs.SizedWords.{never_refused}
 use Rattle.rlsf_tlsf.specs.Bounds.{IfWithinBounds, KeepsBounds}
-use Rattle.rlsf_offsets.proofs.Ranges.{IsSpace-shadow, align_of-live, align_of-same, chunk_end, seated, units_at-live, units_at-none, units_at-same}
+use Rattle.rlsf_offsets.proofs.Blocks.{lies_part}
+use Rattle.rlsf_offsets.proofs.Ranges.{IsSpace-shadow, align_of-live, align_of-same, seated, units_at-live, units_at-none, units_at-same}
 
 pub IsLayout-units : (n align : ℕ) → IsPowerOfTwo align → align ≤ 2 ^ 56 → n ≤ 2 ^ 56 → IsLayout (32 * (n - 1)) (32 * align)
 IsLayout-units n align power low few =
@@ -78,13 +79,9 @@ module _ {units : ℕ} {a : Allocator} (is : IsShadow units a) (b : Allocator) (
 pub HasNoRoomFor-longer : {units : ℕ} {a : Allocator} → IsShadow units a → (m : ℕ) → units < m → HasNoRoomFor (offsets units a) m
 unfolding HasNoRoomFor
 HasNoRoomFor-longer {units} {a} is m more f i reaches =
-    let w = is.stands.well_formed in
-    let whole = w.free f i in
-    let home = lies_in_chunk a.state (tiling_of w) f whole.some (IsPart-free a.state (tiling_of w) f i) in
-    let chunk = w.chunks home.chunk home.is_chunk in
-    let ends = chunk_end is home.chunk home.is_chunk in
-    let long = Reaches-class_of 8 f.len whole.some (32 * m) (omega arith) reaches in
-    omega (arith, chunk.lies_in.0)
+    let whole = is.stands.well_formed.free f i in
+    let lies = lies_part is f whole.some whole.whole.len (IsPart-free a.state (tiling_of is.stands.well_formed) f i) in
+    omega (arith, lies.from, lies.to, Reaches-class_of 8 f.len whole.some (32 * m) (omega arith) reaches)
 
 -- each free range has fewer units than those that are sought and an eighth of them
 abbrev pub IsAllShort : Offsets → ℕ → Type 0

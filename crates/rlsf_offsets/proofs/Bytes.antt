@@ -52,23 +52,19 @@ module _ (unit : ℕ) (some : 0 < unit) where
           record { units = n; first = omega (arith, div-add-mod' o unit, e); len_is = sym same; live = at }
       go (suc r) e x at told = absurd (none-some len told)
 
-  -- one that lives in no units is at no offset
-  pub some_units : (v : Offsets) (o : ℕ) → IsSome (len_at unit v o) → IsSome (units_at v (o / unit))
-  unfolding len_at
-  some_units v o = go (o % unit) (units_at v (o / unit)) refl
+  -- whatever its length is
+  of_some_units : (v : Offsets) (o : ℕ) → IsSome (len_at unit v o) → (len : ℕ) × IsOfUnits v o len
+  of_some_units v o = go (len_at unit v o) refl
     where
-      go : (r : ℕ) (x : Option ℕ) → units_at v (o / unit) ≡ x → IsSome (at_multiple r (option_map (λ (n : ℕ). n * unit) x)) → IsSome (units_at v (o / unit))
-      go zero None at told = absurd (true≢false (sym told))
-      go zero (Some n) at told = subst IsSome (sym at) refl
-      go (suc r) x at told = absurd (true≢false (sym told))
+      go : (x : Option ℕ) → len_at unit v o ≡ x → IsSome x → (len : ℕ) × IsOfUnits v o len
+      go None at told = absurd (true≢false (sym told))
+      go (Some len) at told = (len, of_units v o len at)
+
+  pub some_units : (v : Offsets) (o : ℕ) → IsSome (len_at unit v o) → IsSome (units_at v (o / unit))
+  some_units v o live = subst IsSome (sym (of_some_units v o live).1.live) refl
 
   some_len : (v : Offsets) (o : ℕ) → IsSome (len_at unit v o) → o ≡ o / unit * unit
-  unfolding len_at
-  some_len v o = go (o % unit) refl
-    where
-      go : (r : ℕ) → o % unit ≡ r → IsSome (at_multiple r (option_map (λ (n : ℕ). n * unit) (units_at v (o / unit)))) → o ≡ o / unit * unit
-      go zero e told = omega (arith, div-add-mod' o unit, e)
-      go (suc r) e told = absurd (true≢false (sym told))
+  some_len v o live = (of_some_units v o live).1.first
 
   -- the length of a live range
   pub len-units : (v : Offsets) (o n : ℕ) → IsSome (len_at unit v o) → units_at v (o / unit) ≡ Some n → len_at unit v o ≡ Some (n * unit)

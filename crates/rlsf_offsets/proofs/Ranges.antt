@@ -11,7 +11,7 @@ use Rattle.rlsf_model.specs.State.{State, Used}
 use Rattle.rlsf_model.specs.WellFormed.{covers, IsWellFormed}
 use Rattle.rlsf_model.proofs.CallerWords.{align_at-live, bytes_at-held}
 use Rattle.rlsf_model.proofs.Coverage.{covers-inside, coverage-unique}
-use Rattle.rlsf_model.proofs.Payloads.{IsUsed-after_start, IsUsed-some}
+use Rattle.rlsf_model.proofs.Payloads.{IsUsed-some}
 use Rattle.rlsf_model.proofs.Tiling.{block_of, tiling_of, used-le, lies_in_chunk, IsPart-used}
 use Rattle.rlsf_tlsf.specs.Allocator.{Allocator}
 use Rattle.rlsf_offsets.specs.Units.{AreWhole, align_of, IsShadow, IsSpace, Offsets, offsets, place, units_at, whole_shadow}
@@ -32,7 +32,6 @@ module _ {fllen sllen : ℕ} {memory : Range} {s : State} (w : IsWellFormed flle
   seated u i =
       let is = w.used u i in
       let even = (whole u i).0 in
-      let after = IsUsed-after_start u is in
       let len = is.whole.len in
       let home = lies_in_chunk s (tiling_of w) u.block (IsUsed-some u is) (IsPart-used s (tiling_of w) u i) in
       let chunk = w.chunks home.chunk home.is_chunk in

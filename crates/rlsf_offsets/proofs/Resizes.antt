@@ -192,8 +192,7 @@ module _ {units : ℕ} {a : Allocator} (is : IsShadow units a) (first n size add
       let (u, held) = align_at-some a.state (place first) live in
       let e : align_at a.state (place first) ≡ Some u.align = align_at-held is.stands.well_formed (place first) u held in
       let same : u.align / 32 ≡ align = same_some (align_of (offsets units a) first) (u.align / 32) align (align_of-live (offsets units a) first u.align e) wide in
-      let even = (is.whole u held.0).1 in
-      bounds count (32 * (most - 1)) (32 * widest) u.align sized (ap (align_at a.state) at ∙ e) (omega (arith, short)) (omega (arith, same, even, fits))
+      bounds count (32 * (most - 1)) (32 * widest) u.align sized (ap (align_at a.state) at ∙ e) (omega (arith, short)) (omega (arith, same, (is.whole u held.0).1, fits))
 
 pub sized-there-same : (v x : Offsets) (first n : ℕ) → x.shadow.state ≡ v.shadow.state → KeepsSizedThere v x first n
 unfolding KeepsSizedThere

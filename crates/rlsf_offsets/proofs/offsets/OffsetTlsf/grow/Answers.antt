@@ -1,6 +1,4 @@
-use Rattle.std.proofs.Common.{◌≡◌, ◌↔◌, ◌+◌, ◌/◌, ◌≤◌, true, IsSome, subst, sym, arith}
-use Rattle.rlsf_offsets.specs.Offsets.{IsSpaceGrown, KeepsRanges, len_at}
-use Rattle.rlsf_offsets.specs.Units.{KeepsSpaceSized, Offsets, limit_of}
+use Rattle.std.proofs.Common.{arith}
 use Rattle.rlsf_offsets.proofs.Bytes.{IsSpaceGrown-units, KeepsRanges-unchanged, grown_fits, grown_live}
 use Rattle.rlsf_offsets.proofs.offsets.OffsetTlsf.grow.Goals as goal
 

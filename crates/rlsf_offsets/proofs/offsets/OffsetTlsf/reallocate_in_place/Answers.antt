@@ -11,9 +11,8 @@ units_for-units-requires g c = IsPowerOfTwo-positive g.row.UNIT c.self.invariant
 pub reallocate_in_place-requires-clause-live : goal.reallocate_in_place-requires-clause-live
 reallocate_in_place-requires-clause-live g c =
     let unit = g.row.UNIT in
-    let some = IsPowerOfTwo-positive unit c.self.invariant.0 in
     let live = subst (λ (v : Offsets). IsSome (len_at unit v c.args.offset)) (sym c.self.view_is) c.requires in
-    some_units unit some c.self.inside.inner c.args.offset live
+    some_units unit (IsPowerOfTwo-positive unit c.self.invariant.0) c.self.inside.inner c.args.offset live
 
 pub returns : goal.returns
 returns g c =
