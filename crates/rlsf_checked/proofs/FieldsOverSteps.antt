@@ -52,10 +52,7 @@ pub record IsPlace (v : Allocator) (addr align : ℕ) : Type 0 where
 -- a multiple of a number that isn't 0 is at least that number
 divisor-le : (n m : ℕ) → 0 < n → n % m ≡ 0 → m ≤ n
 divisor-le n zero some whole = omega arith
-divisor-le n (suc m) some whole = elim (cases_lt n (suc m)) [
-  | inl short ↦ absurd (omega (arith, mod-eq_of_lt short))
-  | inr enough ↦ enough
-]
+divisor-le n (suc m) some whole = grind (arith, cases_lt, mod-eq_of_lt)
 
 pub live_place : (fllen sllen : ℕ) (v : Allocator) → Stands fllen sllen v → (addr align : ℕ) → align_at v.state addr ≡ Some align → IsPlace v addr align
 unfolding Stands
@@ -103,10 +100,10 @@ module _ {fllen sllen : ℕ} {v : Allocator} {m : Codes ℕ} {pools : PoolList} 
           (e ∙ ap Some power, omega (arith, mark), omega (arith, mark, place.short), IsPowerOfTwo-pow (code_at m addr - 1))
 
   -- a live address has a mark
-  pub has_mark : (w : Allocator) → Stands fllen sllen w → SamePlace v.memory w.memory → (addr align : ℕ) → align_at w.state addr ≡ Some align → HasPlace m addr
-  has_mark w stands place addr align live =
+  pub has_mark : (w : Allocator) → Stands fllen sllen w → SamePlace v.memory w.memory → (a addr align : ℕ) → a ≡ addr → align_at w.state addr ≡ Some align → HasPlace m a
+  has_mark w stands place a addr align same live =
       let there = live_place fllen sllen w stands addr align live in
-      is.covers addr there.even (omega (arith, there.low, place.0)) (omega (arith, there.high, place.0, place.1))
+      subst (HasPlace m) (sym same) (is.covers addr there.even (omega (arith, there.low, place.0)) (omega (arith, there.high, place.0, place.1)))
 
   -- an address without a place has the mark of none
   pub no_mark : m.none ≡ 0
@@ -134,13 +131,13 @@ module _ {fllen sllen : ℕ} {v : Allocator} {m : Codes ℕ} {pools : PoolList} 
   }
 
   -- one mark was set, as the payload at its address shows, and no other payload changed its alignment
-  pub marked_at : (w : Allocator) (n : Codes ℕ) (addr : ℕ) → Stands fllen sllen w → SamePlace v.memory w.memory → w.state.chunks ≡ v.state.chunks
-      → ((a : ℕ) → HasPlace m a → HasPlace n a) → code_at n addr ≡ mark_of (align_at w.state addr) → ((a : ℕ) → a ≢ addr → code_at n a ≡ code_at m a)
+  pub marked_at : (w : Allocator) (n : Codes ℕ) (b addr : ℕ) → b ≡ addr → Stands fllen sllen w → SamePlace v.memory w.memory → w.state.chunks ≡ v.state.chunks
+      → ((a : ℕ) → HasPlace m a → HasPlace n a) → code_at n b ≡ mark_of (align_at w.state addr) → ((a : ℕ) → a ≢ b → code_at n a ≡ code_at m a)
       → ((a : ℕ) → a ≢ addr → align_at w.state a ≡ align_at v.state a)
       → IsChecked fllen sllen w n pools
-  marked_at w n addr stands place chunks places here marks aligns = kept w n stands place chunks places (λ a. elim (cases_eq a addr) [
-    | inl same ↦ ap (code_at n) same ∙ here ∙ ap (λ x. mark_of (align_at w.state x)) (sym same)
-    | inr apart ↦ marks a apart ∙ is.marked a ∙ ap mark_of (sym (aligns a apart))
+  marked_at w n b addr at stands place chunks places here marks aligns = kept w n stands place chunks places (λ a. elim (cases_eq a addr) [
+    | inl same ↦ ap (code_at n) (same ∙ sym at) ∙ here ∙ ap (λ x. mark_of (align_at w.state x)) (sym same)
+    | inr apart ↦ marks a (λ e. apart (e ∙ at)) ∙ is.marked a ∙ ap mark_of (sym (aligns a apart))
   ])
 
   -- no mark was set, and no payload changed its alignment
@@ -149,17 +146,18 @@ module _ {fllen sllen : ℕ} {v : Allocator} {m : Codes ℕ} {pools : PoolList} 
   unchanged w stands place chunks aligns = kept w m stands place chunks (λ a has. has) (λ a. is.marked a ∙ ap (λ f. mark_of (f a)) (sym aligns))
 
   -- a payload got another size: no mark is left where it was, and then its mark was set where it is
-  pub marked_moved : (w : Allocator) (left n : Codes ℕ) (addr to align : ℕ) → Stands fllen sllen w → SamePlace v.memory w.memory → w.state.chunks ≡ v.state.chunks
-      → ((a : ℕ) → HasPlace m a → HasPlace n a) → ((a : ℕ) → a ≢ addr → code_at left a ≡ code_at m a) → code_at left addr ≡ 0
-      → ((a : ℕ) → a ≢ to → code_at n a ≡ code_at left a) → code_at n to ≡ suc (floor_log2 align) → align_at w.state to ≡ Some align
+  pub marked_moved : (w : Allocator) (left n : Codes ℕ) (b addr d to align : ℕ) → b ≡ addr → d ≡ to → Stands fllen sllen w → SamePlace v.memory w.memory
+      → w.state.chunks ≡ v.state.chunks
+      → ((a : ℕ) → HasPlace m a → HasPlace n a) → ((a : ℕ) → a ≢ b → code_at left a ≡ code_at m a) → code_at left b ≡ 0
+      → ((a : ℕ) → a ≢ d → code_at n a ≡ code_at left a) → code_at n d ≡ suc (floor_log2 align) → align_at w.state to ≡ Some align
       → (to ≢ addr → align_at w.state addr ≡ None)
       → ((a : ℕ) → a ≢ addr → a ≢ to → align_at w.state a ≡ align_at v.state a) → IsChecked fllen sllen w n pools
-  marked_moved w left n addr to align stands place chunks places others cleared new set live gone aligns =
+  marked_moved w left n b addr d to align at at_to stands place chunks places others cleared new set live gone aligns =
       kept w n stands place chunks places (λ a. elim (cases_eq a to) [
-        | inl there ↦ ap (code_at n) there ∙ set ∙ sym (ap mark_of (ap (align_at w.state) there ∙ live))
-        | inr apart ↦ elim (cases_eq a addr) [
-          | inl here ↦ new a apart ∙ ap (code_at left) here ∙ cleared ∙ sym (ap mark_of (ap (align_at w.state) here ∙ gone (λ same. apart (here ∙ sym same))))
-          | inr other ↦ new a apart ∙ others a other ∙ is.marked a ∙ ap mark_of (sym (aligns a other apart))
+        | inl there ↦ ap (code_at n) (there ∙ sym at_to) ∙ set ∙ sym (ap mark_of (ap (align_at w.state) there ∙ live))
+        | inr apart ↦ let news = new a (λ e. apart (e ∙ at_to)) in elim (cases_eq a addr) [
+          | inl here ↦ news ∙ ap (code_at left) (here ∙ sym at) ∙ cleared ∙ sym (ap mark_of (ap (align_at w.state) here ∙ gone (λ same. apart (here ∙ sym same))))
+          | inr other ↦ news ∙ others a (λ e. other (e ∙ at)) ∙ is.marked a ∙ ap mark_of (sym (aligns a other apart))
         ]
       ])
 
@@ -179,6 +177,4 @@ size_fits layout size align long aligned = ap (λ t. cond t None (Some NoLayout)
 
 -- with those of none, one is
 pub size_past : (size align : ℕ) → IsPowerOfTwo align → (IsLayout size align → ⊥) → size_refusal (Some align) size ≡ Some NoLayout
-size_past size align power none =
-    let past : 2 ^ 63 < size + align = elim (cases_lt (2 ^ 63) (size + align)) [ inl above ↦ above | inr fits ↦ absurd (none (record { aligned = power; fits = fits })) ] in
-    ap (λ t. cond t None (Some NoLayout)) (lt-leb (size + align) (2 ^ 63) past)
+size_past size align power none = grind (arith, cases_lt, lt-leb)

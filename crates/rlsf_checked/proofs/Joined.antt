@@ -1,8 +1,8 @@
 -- The totals and the lists of blocks that come one behind another.
-use Rattle.std.proofs.Common.{◌≡◌, ℕ, ◌+◌, ◌-◌, ◌*◌, ◌≤◌, cond, not, List, [], ◌∷◌, ◌++◌, length, map, take, drop, arith, refl, sym, ◌∙◌, ap}
+use Rattle.std.proofs.Common.{◌≡◌, ℕ, ◌+◌, ◌-◌, ◌*◌, ◌≤◌, cond, not, List, [], ◌∷◌, ◌++◌, length, take, drop, arith, refl, sym, ◌∙◌, ap}
 use Rattle.std.proofs.Common.{inl, inr}
 use Rattle.std.proofs.lemmas.Bool.{cases_lt}
-use Rattle.std.proofs.lemmas.List.{append_assoc, drop-drop, length-append, map-append, take-append-le}
+use Rattle.std.proofs.lemmas.List.{append-nil, append_assoc, drop-drop, length-append, map-append, take-append-le, take_all}
 use Rattle.std.proofs.lemmas.List.Elements.{filter-append}
 use Rattle.std.proofs.lemmas.List.Sums.{sum_by-append, sum_by-cons}
 use Rattle.std.proofs.Math.Seq.{drop-append-add, take-append-add}
@@ -23,19 +23,7 @@ greatest-append (n ∷ ns) ms = omega (arith, greatest-append ns ms)
 
 pub joined_totals : (bs cs : List Block) (t u w : Totals) → AreTotalsOf bs t → AreTotalsOf cs u → w.payloads ≡ t.payloads + u.payloads → w.used ≡ t.used + u.used
     → w.free ≡ t.free + u.free → w.longest ≡ max t.longest u.longest → AreTotalsOf (bs ++ cs) w
-joined_totals bs cs t u w first second payloads used free longest =
-    let uses = filter-append (λ (b : Block). b.is_occupied) bs cs in
-    let frees = filter-append (λ (b : Block). not b.is_occupied) bs cs in
-    let len = λ (b : Block). b.range.len in
-    record {
-      payloads = omega (arith, payloads, first.payloads, second.payloads, ap (λ (l : List Block). length l) uses, length-append (used_of bs) (used_of cs));
-      used = omega (arith, used, first.used, second.used, ap total uses, sum_by-append len (used_of bs) (used_of cs));
-      free = omega (arith, free, first.free, second.free, ap total frees, sum_by-append len (free_of bs) (free_of cs));
-      longest =
-          longest ∙ ap (λ n. max n u.longest) first.longest ∙ ap (λ n. max (greatest (map len (free_of bs))) n) second.longest
-          ∙ sym (greatest-append (map len (free_of bs)) (map len (free_of cs))) ∙ ap greatest (sym (map-append len (free_of bs) (free_of cs)))
-          ∙ ap (λ l. greatest (map len l)) (sym frees);
-    }
+joined_totals bs cs t u w first second payloads used free longest = grind (arith, filter-append, not, length-append, sum_by-append, greatest-append, map-append)
 
 total_more : (b : Block) (bs : List Block) → total (used_of (b ∷ bs)) + total (free_of (b ∷ bs)) ≡ b.range.len + (total (used_of bs) + total (free_of bs))
 total_more b bs = by_test b.is_occupied
@@ -54,15 +42,7 @@ total_more b bs = by_test b.is_occupied
 
 pub total-append : (bs cs : List Block) → total (used_of (bs ++ cs)) + total (free_of (bs ++ cs))
     ≡ total (used_of bs) + total (free_of bs) + (total (used_of cs) + total (free_of cs))
-total-append bs cs =
-    let len = λ (b : Block). b.range.len in
-    omega (
-      arith,
-      ap total (filter-append (λ (b : Block). b.is_occupied) bs cs),
-      ap total (filter-append (λ (b : Block). not b.is_occupied) bs cs),
-      sum_by-append len (used_of bs) (used_of cs),
-      sum_by-append len (free_of bs) (free_of cs),
-    )
+total-append bs cs = grind (arith, filter-append, not, sum_by-append)
 
 -- blocks in order between two addresses have no more bytes than lie there
 pub total-le : (bs : List Block) (low high : ℕ) → low ≤ high → IsInOrder bs → ((b : Block) → IsIn b bs → (low ≤ b.range.start) × (end_of b.range ≤ high))
@@ -73,11 +53,6 @@ total-le (b ∷ bs) low high order (first, rest) within =
     omega (arith, total_more b bs, from, total-le bs (end_of b.range) high to rest (λ c i. (first c i, (within c (inr i)).1)))
 
 -- ---- lists
-
--- what lies behind the last element
-pub append-none : (l : List ℕ) → l ++ [] ≡ l
-append-none [] = refl
-append-none (x ∷ l) = ap (λ t. x ∷ t) (append-none l)
 
 numbers-append : (bs cs : List Block) → all_numbers (bs ++ cs) ≡ all_numbers bs ++ all_numbers cs
 numbers-append [] cs = refl
@@ -116,15 +91,11 @@ joined_listing bs cs was mid rest now n k first second is front back = record {
           let same : 3 * (n + k) ≡ 3 * n = omega (arith, none) in
           let short = take-append-le (3 * n) (all_numbers bs) (all_numbers cs) (omega (arith, full, numbers-length bs)) in
           sym (ap (λ i. take i (all_numbers (bs ++ cs))) same ∙ ap (take (3 * n)) (numbers-append bs cs) ∙ short
-          ∙ sym (ap (λ i. take (3 * n) (all_numbers bs) ++ take (3 * i) (all_numbers cs)) none ∙ append-none (take (3 * n) (all_numbers bs))))
+          ∙ sym (ap (λ i. take (3 * n) (all_numbers bs) ++ take (3 * i) (all_numbers cs)) none ∙ append-nil (take (3 * n) (all_numbers bs))))
       | inr all ↦
           let long : 3 * n ≡ length (all_numbers bs) = omega (arith, all, first.count, numbers-length bs) in
           let same : 3 * (n + k) ≡ length (all_numbers bs) + 3 * k = omega (arith, long) in
-          ap (λ l. l ++ take (3 * k) (all_numbers cs)) (ap (λ i. take i (all_numbers bs)) long ∙ whole (all_numbers bs))
+          ap (λ l. l ++ take (3 * k) (all_numbers cs)) (ap (λ i. take i (all_numbers bs)) long ∙ take_all (length (all_numbers bs)) (all_numbers bs) (omega arith))
           ∙ sym (take-append-add (all_numbers bs) (all_numbers cs) (3 * k)) ∙ ap (λ i. take i (all_numbers bs ++ all_numbers cs)) (sym same)
           ∙ ap (take (3 * (n + k))) (sym (numbers-append bs cs))
     ]
-      where
-        whole : (l : List ℕ) → take (length l) l ≡ l
-        whole [] = refl
-        whole (x ∷ l) = ap (λ t. x ∷ t) (whole l)

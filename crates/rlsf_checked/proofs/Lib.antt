@@ -1,6 +1,7 @@
 -- Lemmas on the checked allocator: its invariant, its pools, refused sizes and its parameters.
 pub mod FieldsOverSteps
 mod Gathered
+mod InRange
 mod Joined
 mod ListedPools
 mod PoolsOverSteps

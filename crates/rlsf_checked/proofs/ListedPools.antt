@@ -33,10 +33,7 @@ one_of pools p i = elim (cases_lt 0 pools.last.len) [
 ]
 
 pub is_in : (pools : PoolList) (p : Range) → IsOneOf p pools → IsIn p (current_pools pools)
-is_in pools p (inl i) = elim (cases_lt 0 pools.last.len) [
-  | inl some ↦ subst (IsIn p) (sym (with_last pools some)) (IsIn-append_left p pools.earlier (pools.last ∷ []) i)
-  | inr none ↦ subst (IsIn p) (sym (no_last pools none)) i
-]
+is_in pools p (inl i) = grind (arith, cases_lt, with_last, IsIn-append_left, no_last)
 is_in pools p (inr (same, some)) =
     subst (IsIn p) (sym (with_last pools (omega (arith, some, ap (λ (x : Range). x.len) same)))) (IsIn-append_right p pools.earlier (pools.last ∷ []) (inl same))
 
@@ -53,10 +50,7 @@ AreInOrder-add (p ∷ ps) r (first, rest) ends = (
 )
 
 pub inserted_order : {s : State} (pools : PoolList) → AreCheckedPools s pools → AreInOrder (current_pools pools)
-inserted_order pools are = elim (cases_lt 0 pools.last.len) [
-  | inl some ↦ subst AreInOrder (sym (with_last pools some)) (AreInOrder-add pools.earlier pools.last are.order are.behind)
-  | inr none ↦ subst AreInOrder (sym (no_last pools none)) are.order
-]
+inserted_order pools are = grind (arith, cases_lt, with_last, AreInOrder-add, no_last)
 
 pub AreInOrder-filter : (test : Range → Bool) (ps : List Range) → AreInOrder ps → AreInOrder (filter test ps)
 AreInOrder-filter test [] order = tt

@@ -1,9 +1,8 @@
 -- What is true of a checked allocator's fields once a range was inserted or appended.
-use Rattle.std.proofs.Common.{◌≡◌, ℕ, zero, suc, ◌*◌, ◌/◌, find, ◌+◌, ◌-◌, ◌%◌, ◌^◌, ◌<◌, ◌≤◌, ◌⊎◌, true, false, cond, nat_le}
+use Rattle.std.proofs.Common.{◌≡◌, ℕ, zero, suc, ◌*◌, ◌/◌, find, ◌+◌, ◌-◌, ◌%◌, ◌^◌, ◌<◌, ◌≤◌, ◌⊎◌, true, false, nat_le}
 use Rattle.std.proofs.Common.{nat_lt, List, [], ◌∷◌, length, Option, None, Some, Ok, Err, arith, refl, sym, ◌∙◌, ap, subst, inl, inr}
 use Rattle.std.proofs.lemmas.Bool.{and_parts, cases_lt, eqb-true, le-ltb, leb-true, lt-ltb, ltb-true}
 use Rattle.std.proofs.lemmas.Option.{none-some}
-use Rattle.std.specs.Prelude.{◌==◌}
 use Rattle.rlsf_base.specs.declared.memory.range.Range.{Range}
 use Rattle.rlsf_base.specs.Range.{LiesIn, end_of, range_at}
 use Rattle.rlsf_base.specs.Rounding.{round32}
@@ -17,7 +16,7 @@ use Rattle.rlsf_model.specs.Insert.{Appends, Inserts, IsClear, IsNext, IsUntouch
 use Rattle.rlsf_model.specs.Join.{ends_at}
 use Rattle.rlsf_model.specs.Lists.{IsIn}
 use Rattle.rlsf_model.specs.State.{State, empty}
-use Rattle.rlsf_model.specs.WellFormed.{coverage, itself}
+use Rattle.rlsf_model.specs.WellFormed.{itself}
 use Rattle.rlsf_model.proofs.CallerWords.{align_at-none}
 use Rattle.rlsf_model.proofs.ChunkRows.{IsRow-appended, IsRow-inserted, IsRow-kept, IsRow-kept_apart}
 use Rattle.rlsf_model.proofs.Chunks.{IsIn-with_chunks}
@@ -31,7 +30,6 @@ use Rattle.rlsf_checked.specs.Checked.{Checked, PoolList}
 use Rattle.rlsf_checked.specs.Pools.{no_pools, with_longer_last, with_pool}
 use Rattle.rlsf_checked.specs.declared.error.CheckedError.TheVariants.{NotBehind, NotNext, OutsideMemory}
 use Rattle.rlsf_codes.specs.declared.codes.Codes.{Codes}
-use Rattle.rlsf_checked.specs.Steps.Marks.{mark_of}
 use Rattle.rlsf_codes.specs.Codes.{HasPlace, code_at}
 use Rattle.rlsf_checked.specs.Steps.Standing.{AreCheckedPools, IsChecked, IsOneOf, IsCheckedPool}
 use Rattle.rlsf_checked.proofs.ListedPools.{inserted_order, is_in, one_of}
@@ -52,9 +50,7 @@ end_of-cut fllen part c i =
 end_of-taken : (start n : ℕ) (at : ℕ) (cs : List Range) (c : Range) → bytes_taken start cs ≡ Some n → IsIn c cs → start ≤ end_of_last at cs
     → end_of c ≤ end_of_last at cs → end_of c ≤ start + n
 end_of-taken start n at [] c e i from to = absurd i
-end_of-taken start n at (d ∷ ds) c e i from to =
-    let taken : end_of_last (end_of d) ds - start ≡ n = cc in
-    omega arith
+end_of-taken start n at (d ∷ ds) c e i from to = grind arith
 
 -- so that no more is taken than the range has, and more than is skipped
 pub taken-within : (fllen : ℕ) (r : Range) (n : ℕ) → bytes_taken r.start (cut (max_pool_size fllen) (aligned_part r)) ≡ Some n
@@ -111,10 +107,7 @@ module _ {fllen sllen : ℕ} {v : Allocator} {m : Codes ℕ} {pools : PoolList} 
 
   -- no chunk has a byte behind it
   pub clear : (r : Range) → end_of pools.last ≤ r.start → IsClear r v.state.chunks
-  clear r behind a low high = elim (cases_lt (coverage itself v.state.chunks a) 1) [
-    | inl none ↦ omega (arith, none)
-    | inr some ↦ let (c, i, from, to) = coverage-some itself v.state.chunks a some in absurd (omega (arith, below c i, to, low, behind))
-  ]
+  clear r behind a low high = grind (arith, cases_lt, coverage-some, below)
 
   pub untouched : (r : Range) → end_of pools.last ≤ r.start → IsUntouched v.state.chunks r
   unfolding IsUntouched
@@ -129,14 +122,7 @@ module _ {fllen sllen : ℕ} {v : Allocator} {m : Codes ℕ} {pools : PoolList} 
     -- the fields are those of a checked allocator with other pools
     pub renewed : (after : PoolList) → AreCheckedPools w.state after → v.memory.start ≤ after.last.start → end_of after.last ≤ end_of (range_of v.memory)
         → IsChecked fllen sllen w m after
-    renewed after are low high = record {
-      stands = stands;
-      marked = λ a. is.marked a ∙ ap (λ f. mark_of (f a)) (sym aligns);
-      covers = λ a even low high. is.covers a even (omega (arith, place.0, low)) (omega (arith, place.0, place.1, high));
-      low = omega (arith, low, place.0);
-      high = omega (arith, high, place.0, place.1);
-      pools = are;
-    }
+    renewed after are low high = grind arith
 
     -- what was taken of a range is the last pool
     pub handed_in : (r : Range) → end_of pools.last ≤ r.start → LiesIn r v.memory.start (length v.memory.bytes) → (n : ℕ) → Inserts fllen v.state r (Some n) w.state
@@ -148,19 +134,7 @@ module _ {fllen sllen : ℕ} {v : Allocator} {m : Codes ℕ} {pools : PoolList} 
 pub made : {fllen sllen : ℕ} (heap : Allocator) (m : Codes ℕ) → Stands fllen sllen heap → heap.state ≡ empty → ((a : ℕ) → code_at m a ≡ 0)
     → ((a : ℕ) → a % 16 ≡ 0 → heap.memory.start ≤ a → a ≤ end_of (range_of heap.memory) → HasPlace m a)
     → IsChecked fllen sllen heap m (no_pools heap.memory.start)
-made heap m stands none zeros covers = record {
-  stands = stands;
-  marked = λ a. zeros a ∙ ap mark_of (sym (ap (λ s. align_at s a) none ∙ align_at-none empty a refl));
-  covers = covers;
-  low = omega arith;
-  high = omega arith;
-  pools = record {
-    each = λ p one. elim one [ inl i ↦ absurd i | inr (same, some) ↦ absurd (omega (arith, some, ap (λ (x : Range). x.len) same)) ];
-    order = tt;
-    behind = λ p i. absurd i;
-    homes = λ c i. absurd (subst (λ (s : State). IsIn c s.chunks) none i);
-  };
-}
+made heap m stands none zeros covers = grind (arith, align_at-none)
 
 -- where nothing is taken, nothing changes
 pub none_taken : (fllen : ℕ) (s t : State) (r : Range) → Inserts fllen s r None t → t ≡ s
@@ -172,61 +146,52 @@ none_taken fllen s t r step = go (cut (max_pool_size fllen) (aligned_part r)) st
 
 -- a range that is found to lie in another does
 pub within_is : (whole r : Range) → true ≡ is_within whole r → LiesIn r whole.start whole.len
-within_is whole r e =
-    let (from, to) = and_parts (nat_le whole.start r.start) (nat_le (end_of r) (end_of whole)) (sym e) in
-    (leb-true whole.start r.start from, leb-true (end_of r) (end_of whole) to)
+within_is whole r e = grind (arith, and_parts, nat_le, leb-true)
 
 -- what is returned of a range in the memory that doesn't begin before the end of the last pool
 pub behind_answer : (fllen : ℕ) (v : Checked) (r : Range) → true ≡ is_within (range_of v.heap.memory) r → end_of v.pools.last ≤ r.start
     → insert_answer fllen v r ≡ if_taken (bytes_taken r.start (cut (max_pool_size fllen) (aligned_part r)))
-behind_answer fllen v r within behind =
-    let told = if_taken (bytes_taken r.start (cut (max_pool_size fllen) (aligned_part r))) in
-    ap (λ t. cond t (cond (nat_lt r.start (end_of v.pools.last)) (Err NotBehind) told) (Err OutsideMemory)) (sym within)
-    ∙ ap (λ t. cond t (Err NotBehind) told) (le-ltb r.start (end_of v.pools.last) behind)
+behind_answer fllen v r within behind = grind (arith, nat_lt, le-ltb)
 
 -- one outside of the memory is refused
 pub outside_answer : (fllen : ℕ) (v : Checked) (r : Range) → false ≡ is_within (range_of v.heap.memory) r → insert_answer fllen v r ≡ Err OutsideMemory
-outside_answer fllen v r outside =
-    let told = if_taken (bytes_taken r.start (cut (max_pool_size fllen) (aligned_part r))) in
-    ap (λ t. cond t (cond (nat_lt r.start (end_of v.pools.last)) (Err NotBehind) told) (Err OutsideMemory)) (sym outside)
+outside_answer fllen v r outside = grind (arith, nat_lt)
 
 -- and so is one before the end of the last pool
 pub before_answer : (fllen : ℕ) (v : Checked) (r : Range) → true ≡ is_within (range_of v.heap.memory) r → r.start < end_of v.pools.last
     → insert_answer fllen v r ≡ Err NotBehind
-before_answer fllen v r within before =
-    let told = if_taken (bytes_taken r.start (cut (max_pool_size fllen) (aligned_part r))) in
-    ap (λ t. cond t (cond (nat_lt r.start (end_of v.pools.last)) (Err NotBehind) told) (Err OutsideMemory)) (sym within)
-    ∙ ap (λ t. cond t (Err NotBehind) told) (lt-ltb r.start (end_of v.pools.last) before)
+before_answer fllen v r within before = grind (arith, nat_lt, lt-ltb)
 
 -- ---- a range behind the last pool
 
 -- the last pool ends with a chunk
 pub last_chunk : {s : State} {p : Range} → IsCheckedPool s p → (c : Range) × IsIn c s.chunks × (end_of c ≡ end_of p)
-last_chunk {p = p} is =
-    let room = is.room in
-    let (c, i, from, low, high, to) = is.row (end_of p - 1) (omega (arith, room)) (omega (arith, room)) in
-    (c, i, omega (arith, room, high, to))
+last_chunk {p = p} is = grind arith
 
--- the chunks of a range that begins where a chunk ends don't end behind what is appended of it
-appended-below : (fllen : ℕ) (s : State) (r : Range) → r.start % 32 ≡ 0 → (n : ℕ) → n ≡ appended_bytes (max_pool_size fllen) r
-    → ((c : Range) → IsIn c s.chunks → end_of c ≤ r.start)
-    → (c : Range) → IsIn c (appended (max_pool_size fllen) r s).chunks → end_of c ≤ r.start + n
-appended-below fllen s r whole n told below = go (max_pool_size fllen) refl told
+-- The chunks of a range that begins where a chunk ends don't end behind what is appended of it. Each was there, or doesn't begin before an
+-- address at which the chunk that ends there doesn't begin either
+appended-chunks : (fllen : ℕ) (s : State) (r : Range) (start : ℕ) → r.start % 32 ≡ 0 → start < r.start → (n : ℕ) → n ≡ appended_bytes (max_pool_size fllen) r
+    → ((c : Range) → IsIn c s.chunks → (end_of c ≤ r.start) × (end_of c ≡ r.start → start ≤ c.start))
+    → (c : Range) → IsIn c (appended (max_pool_size fllen) r s).chunks → (end_of c ≤ r.start + n) × (IsIn c s.chunks ⊎ (start ≤ c.start))
+appended-chunks fllen s r start whole before n told old = go (max_pool_size fllen) refl told
   where
-    grown-below : (k : ℕ) (o : Option Range) → find (ends_at r.start) s.chunks ≡ o → (c : Range) → IsIn c (grown_if o k s).chunks → end_of c ≤ r.start + k
-    grown-below k None found c i = omega (arith, below c i)
-    grown-below k (Some d) found c (inl same) =
-        let ends : end_of d ≡ r.start = eqb-true (end_of d) r.start (find-some (ends_at r.start) d s.chunks found).1 in
+    grown-chunks : (k : ℕ) (o : Option Range) → find (ends_at r.start) s.chunks ≡ o → (c : Range) → IsIn c (grown_if o k s).chunks
+        → (end_of c ≤ r.start + k) × (IsIn c s.chunks ⊎ (start ≤ c.start))
+    grown-chunks k None found c i = (omega (arith, (old c i).0), inl i)
+    grown-chunks k (Some d) found c (inl same) =
+        let (held, passes) = find-some (ends_at r.start) d s.chunks found in
+        let ends : end_of d ≡ r.start = eqb-true (end_of d) r.start passes in
         let long : end_of c ≡ d.start + (d.len + k) = ap end_of same in
-        omega (arith, ends, long)
-    grown-below k (Some d) found c (inr j) = omega (arith, below c (IsIn-without (ends_at (end_of d)) c s.chunks j))
+        (omega (arith, ends, long), inr (omega (arith, (old d held).1 ends, ap (λ (x : Range). x.start) same)))
+    grown-chunks k (Some d) found c (inr j) = let i = IsIn-without (ends_at (end_of d)) c s.chunks j in (omega (arith, (old c i).0), inl i)
 
-    extended-below : (k : ℕ) → (c : Range) → IsIn c (extended r.start k s).chunks → end_of c ≤ r.start + k
-    extended-below zero c i = omega (arith, below c i)
-    extended-below (suc k) c i = grown-below (suc k) (find (ends_at r.start) s.chunks) refl c i
+    extended-chunks : (k : ℕ) → (c : Range) → IsIn c (extended r.start k s).chunks → (end_of c ≤ r.start + k) × (IsIn c s.chunks ⊎ (start ≤ c.start))
+    extended-chunks zero c i = (omega (arith, (old c i).0), inl i)
+    extended-chunks (suc k) c i = grown-chunks (suc k) (find (ends_at r.start) s.chunks) refl c i
 
-    go : (o : Option ℕ) → max_pool_size fllen ≡ o → n ≡ appended_bytes o r → (c : Range) → IsIn c (appended o r s).chunks → end_of c ≤ r.start + n
-    go None same e c i = omega (arith, extended-below (r.len / 32 * 32) c i, e)
+    go : (o : Option ℕ) → max_pool_size fllen ≡ o → n ≡ appended_bytes o r → (c : Range) → IsIn c (appended o r s).chunks
+        → (end_of c ≤ r.start + n) × (IsIn c s.chunks ⊎ (start ≤ c.start))
+    go None same e c i = let (below, was) = extended-chunks (r.len / 32 * 32) c i in (omega (arith, below, e), was)
     go (Some most) same e c i =
         let cs = cut (Some most) (aligned_part r) in
         let at : (aligned_part r).start ≡ r.start = omega (arith, whole) in
@@ -235,34 +200,9 @@ appended-below fllen s r whole n told below = go (max_pool_size fllen) refl told
               let (from, to, within, some) = end_of-cut fllen (aligned_part r) c (subst (λ o. IsIn c (cut o (aligned_part r))) (sym same) made) in
               let last : end_of_last (aligned_part r).start (cut (max_pool_size fllen) (aligned_part r)) ≡ end_of_last r.start cs =
               ap (λ o. end_of_last (aligned_part r).start (cut o (aligned_part r))) same ∙ ap (λ a. end_of_last a cs) at in
-              omega (arith, to, last, e)
-          | inr old ↦ omega (arith, below c old)
+              (omega (arith, to, last, e), inr (omega (arith, from, before, round32-le r.start)))
+          | inr j ↦ (omega (arith, (old c j).0), inl j)
         ]
-
--- and each was there, or doesn't begin before an address at which the chunk that ends there doesn't begin either
-appended-old : (fllen : ℕ) (s : State) (r : Range) (start : ℕ) → start < r.start → ((c : Range) → IsIn c s.chunks → end_of c ≡ r.start → start ≤ c.start)
-    → (c : Range) → IsIn c (appended (max_pool_size fllen) r s).chunks → IsIn c s.chunks ⊎ (start ≤ c.start)
-appended-old fllen s r start before last = go (max_pool_size fllen) refl
-  where
-    grown-old : (k : ℕ) (o : Option Range) → find (ends_at r.start) s.chunks ≡ o → (c : Range) → IsIn c (grown_if o k s).chunks → IsIn c s.chunks ⊎ (start ≤ c.start)
-    grown-old k None found c i = inl i
-    grown-old k (Some d) found c (inl same) =
-        let (held, passes) = find-some (ends_at r.start) d s.chunks found in
-        inr (omega (arith, last d held (eqb-true (end_of d) r.start passes), ap (λ (x : Range). x.start) same))
-    grown-old k (Some d) found c (inr j) = inl (IsIn-without (ends_at (end_of d)) c s.chunks j)
-
-    extended-old : (k : ℕ) → (c : Range) → IsIn c (extended r.start k s).chunks → IsIn c s.chunks ⊎ (start ≤ c.start)
-    extended-old zero c i = inl i
-    extended-old (suc k) c i = grown-old (suc k) (find (ends_at r.start) s.chunks) refl c i
-
-    go : (o : Option ℕ) → max_pool_size fllen ≡ o → (c : Range) → IsIn c (appended o r s).chunks → IsIn c s.chunks ⊎ (start ≤ c.start)
-    go None same c i = extended-old (r.len / 32 * 32) c i
-    go (Some most) same c i = elim (IsIn-with_chunks c (cut (Some most) (aligned_part r)) s i) [
-      | inl made ↦
-          let (from, to, within, some) = end_of-cut fllen (aligned_part r) c (subst (λ o. IsIn c (cut o (aligned_part r))) (sym same) made) in
-          inr (omega (arith, from, before, round32-le r.start))
-      | inr old ↦ inl old
-    ]
 
 -- no more is taken than the range has, and where nothing is, nothing changes
 pub appended-le : (fllen : ℕ) (s : State) (r : Range) → (appended_bytes (max_pool_size fllen) r ≤ r.len) × ((t : State) → Appends fllen s r 0 t → t ≡ s)
@@ -312,11 +252,10 @@ module _ {fllen sllen : ℕ} {v : Allocator} {m : Codes ℕ} {pools : PoolList} 
   longer_row : (w : Allocator) (n : ℕ) → Appends fllen v.state r n w.state → IsRow w.state (walked (range_at pools.last.start (pools.last.len + n)))
   unfolding Stands
   longer_row w n step =
-      let room = last_is.room in
       let p = walked pools.last in
-      let ends : end_of p ≡ r.start = omega (arith, room, next) in
-      let long : p.len + n ≡ pools.last.start + (pools.last.len + n) - p.start = omega (arith, room) in
-      subst (λ l. IsRow w.state (range_at p.start l)) long (IsRow-appended is.stands.stands.well_formed r p ends (omega (arith, room)) last_is.row n w.state step)
+      let ends : end_of p ≡ r.start = omega (arith, last_is.room, next) in
+      let long : p.len + n ≡ pools.last.start + (pools.last.len + n) - p.start = omega (arith, last_is.room) in
+      subst (λ l. IsRow w.state (range_at p.start l)) long (IsRow-appended is.stands.stands.well_formed r p ends (omega (arith, last_is.room)) last_is.row n w.state step)
 
   -- no more is taken than the range has, so its end fits in a word
   pub appended_fits : (w : Allocator) (n : ℕ) → Appends fllen v.state r n w.state → (n ≤ r.len) × (end_of pools.last + n < 2 ^ 64)
@@ -354,8 +293,9 @@ module _ {fllen sllen : ℕ} {v : Allocator} {m : Codes ℕ} {pools : PoolList} 
       homes : (c : Range) → IsIn c w.state.chunks → (p : Range) × IsOneOf p (with_longer_last pools n) × (p.start ≤ c.start) × (end_of c ≤ end_of p)
       homes c i =
           let j = subst (λ (x : State). IsIn c x.chunks) step.after i in
-          let to = appended-below fllen v.state r whole_start n step.answer (λ d k. omega (arith, below is d k, next)) c j in
-          elim (appended-old fllen v.state r pools.last.start (omega (arith, next, some)) at_end c j) [
+          let (to, was) = appended-chunks fllen v.state r pools.last.start whole_start (omega (arith, next, some)) n step.answer
+          (λ d k. (omega (arith, below is d k, next), at_end d k)) c j in
+          elim was [
             | inr from ↦ (range_at pools.last.start (pools.last.len + n), inr (refl, omega (arith, some)), from, omega (arith, to, next))
             | inl old ↦
                 let (p, one, from, end) = is.pools.homes c old in
@@ -379,28 +319,20 @@ module _ {fllen sllen : ℕ} {v : Allocator} {m : Codes ℕ} {pools : PoolList} 
 -- what is returned of a range in the memory that begins where the last pool ends
 pub next_answer : (fllen : ℕ) (v : Checked) (r : Range) → true ≡ is_within (range_of v.heap.memory) r → true ≡ is_next v.pools.last r.start
     → append_answer fllen v r ≡ if_appended (appended_bytes (max_pool_size fllen) r)
-next_answer fllen v r within next =
-    let told = if_appended (appended_bytes (max_pool_size fllen) r) in
-    ap (λ t. cond t (cond (is_next v.pools.last r.start) told (Err NotNext)) (Err OutsideMemory)) (sym within) ∙ ap (λ t. cond t told (Err NotNext)) (sym next)
+next_answer fllen v r within next = grind arith
 
 -- one outside of the memory isn't appended
 pub none_outside : (fllen : ℕ) (v : Checked) (r : Range) → false ≡ is_within (range_of v.heap.memory) r → append_answer fllen v r ≡ Err OutsideMemory
-none_outside fllen v r outside =
-    let told = if_appended (appended_bytes (max_pool_size fllen) r) in
-    ap (λ t. cond t (cond (is_next v.pools.last r.start) told (Err NotNext)) (Err OutsideMemory)) (sym outside)
+none_outside fllen v r outside = grind arith
 
 -- nor one that isn't next
 pub none_apart : (fllen : ℕ) (v : Checked) (r : Range) → true ≡ is_within (range_of v.heap.memory) r → false ≡ is_next v.pools.last r.start
     → append_answer fllen v r ≡ Err NotNext
-none_apart fllen v r within apart =
-    let told = if_appended (appended_bytes (max_pool_size fllen) r) in
-    ap (λ t. cond t (cond (is_next v.pools.last r.start) told (Err NotNext)) (Err OutsideMemory)) (sym within) ∙ ap (λ t. cond t told (Err NotNext)) (sym apart)
+none_apart fllen v r within apart = grind arith
 
 -- a range that is found to be next begins where a chunk ends
 pub next_is : (pool r : Range) → true ≡ is_next pool r.start → (0 < pool.len) × (r.start ≡ end_of pool)
-next_is pool r e =
-    let (some, ends) = and_parts (nat_lt 0 pool.len) (r.start == end_of pool) (sym e) in
-    (ltb-true 0 pool.len some, eqb-true r.start (end_of pool) ends)
+next_is pool r e = grind (arith, and_parts, nat_lt, ltb-true, eqb-true)
 
 -- the number of taken bytes is returned
 pub some_appended : (n : ℕ) → (n ≡ 0 → ⊥) → if_appended n ≡ Ok n

@@ -116,10 +116,9 @@ module _ {fllen sllen : ℕ} {memory : Range} {s t : State} {pools : PoolList} (
 
       stays : (p : Range) → IsIn p pools.earlier → (end_of p ≤ r.start) ⊎ (end_of r ≤ p.start) → IsIn p (filter (λ q. not (q.start == r.start)) pools.earlier)
       stays p i off =
-          let room = (are.each p (inl i)).room in
           IsIn-filter_from (λ q. not (q.start == r.start)) p pools.earlier i (by_test (p.start == r.start)
           (λ e. elim off [
-            | inl before ↦ absurd (omega (arith, before, room, round32-le p.start, eqb-true p.start r.start e))
+            | inl before ↦ absurd (omega (arith, before, (are.each p (inl i)).room, round32-le p.start, eqb-true p.start r.start e))
             | inr behind ↦ absurd (omega (arith, behind, some, round32-le r.start, eqb-true p.start r.start e))
           ])
           (λ e. ap not e))
@@ -161,7 +160,4 @@ removed_last_pool {w = w} {pools = pools} is stands place aligns removes =
 
 -- the part of the last pool that is iterated over is contiguous chunks, or empty
 pub last_row : {s : State} {pools : PoolList} → AreCheckedPools s pools → IsRow s (walked pools.last)
-last_row {pools = pools} are = elim (cases_lt 0 pools.last.len) [
-  | inl some ↦ (are.each pools.last (inr (refl, some))).row
-  | inr none ↦ λ a low high. absurd (omega (arith, none, low, high, round32-le pools.last.start))
-]
+last_row {pools = pools} are = grind (arith, cases_lt, round32-le)

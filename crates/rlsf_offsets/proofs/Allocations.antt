@@ -20,7 +20,7 @@ use Rattle.rlsf_model.specs.Sized.{live_count}
 use Rattle.rlsf_model.specs.State.{State, Used}
 use Rattle.rlsf_model.proofs.CallerWords.{align_at-live}
 use Rattle.rlsf_model.proofs.Payloads.{IsUsed-aligned}
-use Rattle.rlsf_model.proofs.Tiling.{tiling_of, lies_in_chunk, IsPart-free}
+use Rattle.rlsf_model.proofs.Tiling.{tiling_of, IsPart-free}
 use Rattle.rlsf_model.proofs.Room.{refused_without_reach}
 use Rattle.rlsf_tlsf.specs.Allocator.{Allocator}
 use Rattle.rlsf_tlsf.specs.Results.{IsAllocated}
@@ -28,7 +28,8 @@ use Rattle.rlsf_offsets.specs.Units.{AreWhole, HasNoRoomFor, IsSizedForUnits, Su
 use Rattle.rlsf_model.specs.Sized.{IsSizedFor}
 use Rattle.rlsf_model.proofs.SizedWords.{never_refused}
 use Rattle.rlsf_tlsf.specs.Bounds.{IfWithinBounds, KeepsBounds}
-use Rattle.rlsf_offsets.proofs.Ranges.{IsSpace-shadow, align_of-live, align_of-same, chunk_end, seated, units_at-live, units_at-none, units_at-same}
+use Rattle.rlsf_offsets.proofs.Blocks.{lies_part}
+use Rattle.rlsf_offsets.proofs.Ranges.{IsSpace-shadow, align_of-live, align_of-same, seated, units_at-live, units_at-none, units_at-same}
 
 pub IsLayout-units : (n align : ℕ) → IsPowerOfTwo align → align ≤ 2 ^ 56 → n ≤ 2 ^ 56 → IsLayout (32 * (n - 1)) (32 * align)
 IsLayout-units n align power low few =
@@ -78,16 +79,9 @@ module _ {units : ℕ} {a : Allocator} (is : IsShadow units a) (b : Allocator) (
 pub HasNoRoomFor-longer : {units : ℕ} {a : Allocator} → IsShadow units a → (m : ℕ) → units < m → HasNoRoomFor (offsets units a) m
 unfolding HasNoRoomFor
 HasNoRoomFor-longer {units} {a} is m more f i reaches =
-    let w = is.stands.well_formed in
-    let whole = w.free f i in
-    let home = lies_in_chunk a.state (tiling_of w) f whole.some (IsPart-free a.state (tiling_of w) f i) in
-    let chunk = w.chunks home.chunk home.is_chunk in
-    let from = home.from in
-    let to = home.to in
-    let start = is.start in
-    let ends = chunk_end is home.chunk home.is_chunk in
-    let long = Reaches-class_of 8 f.len whole.some (32 * m) (omega arith) reaches in
-    omega (arith, chunk.lies_in.0)
+    let whole = is.stands.well_formed.free f i in
+    let lies = lies_part is f whole.some whole.whole.len (IsPart-free a.state (tiling_of is.stands.well_formed) f i) in
+    omega (arith, lies.from, lies.to, Reaches-class_of 8 f.len whole.some (32 * m) (omega arith) reaches)
 
 -- each free range has fewer units than those that are sought and an eighth of them
 abbrev pub IsAllShort : Offsets → ℕ → Type 0
@@ -107,21 +101,14 @@ module _ {units : ℕ} {a b : Allocator} (is : IsShadow units a) (after : IsShad
 
   is_place : (2 ^ 62 ≤ addr) × (addr ≡ place offset)
   is_place =
-      let w = after.stands.well_formed in
       let (u, held, same) = align_at-live b.state addr wide made.live in
-      let seat = seated w after.whole u held.0 in
-      let at = held.1 in
-      let low = seat.low in
-      let front = seat.front in
-      let even = seat.payload in
-      let start = after.start in
+      let seat = seated after.stands.well_formed after.whole u held.0 in
       (omega arith, omega arith)
 
   is_aligned : offset % align ≡ 0
   is_aligned =
-      let w = after.stands.well_formed in
       let (u, held, same) = align_at-live b.state addr wide made.live in
-      let divides : addr % wide ≡ 0 = subst (λ m. addr % m ≡ 0) same (subst (λ x. x % u.align ≡ 0) held.1 (IsUsed-aligned u (w.used u held.0))) in
+      let divides : addr % wide ≡ 0 = subst (λ m. addr % m ≡ 0) same (subst (λ x. x % u.align ≡ 0) held.1 (IsUsed-aligned u (after.stands.well_formed.used u held.0))) in
       let k = floor_log2 align in
       let few : k ≤ 56 = pow-between align k 56 (omega (arith, power)) (omega arith) in
       let q = addr / wide in
@@ -135,8 +122,6 @@ module _ {units : ℕ} {a b : Allocator} (is : IsShadow units a) (after : IsShad
   pub IsReserved-allocated : length b.memory.bytes ≡ length a.memory.bytes → IsReserved (offsets units a) (offsets units b) n align offset
   IsReserved-allocated long =
       let here = subst (IsAllocated a.state b.state size wide) is_place.1 made in
-      let sized = here.sized in
-      let few = here.few in
       let live : units_at (offsets units b) offset ≡ Some n = units_at-live (offsets units b) offset wide here.live ∙ ap (λ m. Some m) (omega arith) in
       let new : units_at (offsets units a) offset ≡ None = units_at-none (offsets units a) offset here.new in
       let others : (o : ℕ) → o ≢ offset → units_at (offsets units b) o ≡ units_at (offsets units a) o = λ o other.

@@ -13,7 +13,7 @@ use Rattle.rlsf_model.specs.Lists.{IsIn}
 use Rattle.rlsf_model.specs.WellFormed.{coverage, itself, last_bytes}
 use Rattle.rlsf_model.proofs.Coverage.{covers-before, covers-inside, coverage-some}
 use Rattle.rlsf_model.proofs.Payloads.{IsUsed-some}
-use Rattle.rlsf_model.proofs.Tiling.{IsPart-free, IsPart-used, block_of, lies_in_chunk, tiling_of}
+use Rattle.rlsf_model.proofs.Tiling.{IsPart, IsPart-free, IsPart-used, block_of, lies_in_chunk, tiling_of}
 use Rattle.rlsf_tlsf.specs.Allocator.{Allocator}
 use Rattle.rlsf_offsets.specs.declared.stats.Stats.{Stats}
 use Rattle.rlsf_offsets.specs.Iteration.{AreInSpace}
@@ -23,41 +23,35 @@ use Rattle.rlsf_offsets.proofs.Ranges.{chunk_end}
 
 -- ---- where blocks lie
 
-record LiesInShadow (units : ℕ) (r : Range) : Type 0 where
-  from : 2 ^ 62 - 32 ≤ r.start
-  to : end_of r ≤ 2 ^ 62 - 32 + 32 * units
-  some : 0 < r.len
-  even : r.len % 32 ≡ 0
+pub record LiesInShadow (units : ℕ) (r : Range) : Type 0 where
+  pub from : 2 ^ 62 - 32 ≤ r.start
+  pub to : end_of r ≤ 2 ^ 62 - 32 + 32 * units
+  pub some : 0 < r.len
+  pub even : r.len % 32 ≡ 0
 
 module _ {units : ℕ} {a : Allocator} (is : IsShadow units a) where
+  -- a part of its chunk lies in it
+  pub lies_part : (r : Range) → 0 < r.len → r.len % 32 ≡ 0 → IsPart a.state r → LiesInShadow units r
+  lies_part r some even part =
+      let w = is.stands.well_formed in
+      let home = lies_in_chunk a.state (tiling_of w) r some part in
+      let inside = (w.chunks home.chunk home.is_chunk).lies_in in
+      let ends = chunk_end is home.chunk home.is_chunk in
+      record { from = omega (arith, inside.0, home.from, is.start); to = omega (arith, ends, home.to); some = some; even = even }
+
   lies : (b : Block) → HasBlock a.state b → LiesInShadow units b.range
   lies b (used u i e k) =
       let w = is.stands.well_formed in
       let has = w.used u i in
-      let more = IsUsed-some u has in
-      let home = lies_in_chunk a.state (tiling_of w) u.block more (IsPart-used a.state (tiling_of w) u i) in
-      let inside = (w.chunks home.chunk home.is_chunk).lies_in in
-      let from = home.from in
-      let to = home.to in
-      let start = is.start in
-      let ends = chunk_end is home.chunk home.is_chunk in
-      subst (LiesInShadow units) (sym e) (record { from = omega (arith, inside.0); to = omega (arith, ends); some = more; even = has.whole.len })
+      subst (LiesInShadow units) (sym e) (lies_part u.block (IsUsed-some u has) has.whole.len (IsPart-used a.state (tiling_of w) u i))
   lies b (free i k) =
       let w = is.stands.well_formed in
       let f = w.free b.range i in
-      let more = f.some in
-      let home = lies_in_chunk a.state (tiling_of w) b.range more (IsPart-free a.state (tiling_of w) b.range i) in
-      let inside = (w.chunks home.chunk home.is_chunk).lies_in in
-      let from = home.from in
-      let to = home.to in
-      let start = is.start in
-      let ends = chunk_end is home.chunk home.is_chunk in
-      record { from = omega (arith, inside.0); to = omega (arith, ends); some = more; even = f.whole.len }
+      lies_part b.range f.some f.whole.len (IsPart-free a.state (tiling_of w) b.range i)
 
   -- each address that a unit has is in a block
   block_with : (z : ℕ) → 2 ^ 62 - 32 ≤ z → z < 2 ^ 62 - 32 + 32 * units → (b : Block) × HasBlock a.state b × (b.range.start ≤ z) × (z < end_of b.range)
   block_with z from to =
-      let w = is.stands.well_formed in
       let any : 0 < units = omega arith in
       let c = whole_shadow units in
       let last : coverage last_bytes a.state.chunks z ≡ 0
@@ -67,7 +61,7 @@ module _ {units : ℕ} {a : Allocator} (is : IsShadow units a) where
       elim (cases_lt 0 (coverage itself a.state.free z)) [
         | inl some ↦ let (f, i, low, high) = coverage-some itself a.state.free z some in (record { range = f; is_occupied = false }, free i refl, low, high)
         | inr none ↦
-            let (u, i, low, high) = coverage-some block_of a.state.used z (omega (arith, w.tiled z)) in
+            let (u, i, low, high) = coverage-some block_of a.state.used z (omega (arith, is.stands.well_formed.tiled z)) in
             (record { range = u.block; is_occupied = true }, used u i refl refl, low, high)
       ]
 
@@ -91,9 +85,6 @@ module _ {units : ℕ} {a : Allocator} (is : IsShadow units a) where
       (λ i. ((are.exactly b).0 i).0),
       (λ has.
           let home = lies b has in
-          let from = home.from in
-          let to = home.to in
-          let some = home.some in
           let all = long (omega arith) in
           (are.exactly b).1 (has, omega arith, omega (arith, all))),
     );
@@ -124,10 +115,9 @@ summed (b ∷ bs) even = by_use (summed bs (λ c i. even c (inr i))) b.is_occupi
         let u : total (used_of (b ∷ bs)) ≡ b.range.len + total (used_of bs) = ap total (used_cons b bs e) ∙ total_cons b (used_of bs) in
         let f : total (free_of (b ∷ bs)) ≡ total (free_of bs) = ap total (free_skip b bs e) in
         let l : longest_of (free_of (b ∷ bs)) ≡ longest_of (free_of bs) = ap (λ x. longest_of x) (free_skip b bs e) in
-        let len = even b (inl refl) in
         record {
           halves = omega (arith, rest.halves, u, f, total_cons b bs);
-          used_even = omega (arith, rest.used_even, u, len);
+          used_even = omega (arith, rest.used_even, u, even b (inl refl));
           free_even = omega (arith, rest.free_even, f);
           longest_even = omega (arith, rest.longest_even, l);
           longest_low = omega (arith, rest.longest_low, l, f);
@@ -176,15 +166,14 @@ AreSpaceTotals-blocks {units} {a} is bs t all of =
     let length_all = span bs (2 ^ 62 - 32) (2 ^ 62 - 32 + 32 * units) (omega arith) all.in_order (λ b i. ((home b i).from, (home b i).to, (home b i).some)) (λ z from to.
     let (b, has, low, high) = block_with is z from to in
     (b, (all.exactly b).1 has, low, high)) in
-    let in_used = of.used in
     let in_free = of.free in
     let longest = of.longest in
     record {
       blocks = bs;
       all = all;
       totals = of;
-      whole = omega (arith, length_all, sums.halves, in_used, in_free);
-      even = (omega (arith, sums.used_even, in_used), omega (arith, sums.free_even, in_free), omega (arith, sums.longest_even, longest));
+      whole = omega (arith, length_all, sums.halves, of.used, in_free);
+      even = (omega (arith, sums.used_even, of.used), omega (arith, sums.free_even, in_free), omega (arith, sums.longest_even, longest));
       longest = omega (arith, sums.longest_low, longest, in_free);
     }
 

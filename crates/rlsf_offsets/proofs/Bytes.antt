@@ -52,23 +52,19 @@ module _ (unit : ℕ) (some : 0 < unit) where
           record { units = n; first = omega (arith, div-add-mod' o unit, e); len_is = sym same; live = at }
       go (suc r) e x at told = absurd (none-some len told)
 
-  -- one that lives in no units is at no offset
-  pub some_units : (v : Offsets) (o : ℕ) → IsSome (len_at unit v o) → IsSome (units_at v (o / unit))
-  unfolding len_at
-  some_units v o = go (o % unit) (units_at v (o / unit)) refl
+  -- whatever its length is
+  of_some_units : (v : Offsets) (o : ℕ) → IsSome (len_at unit v o) → (len : ℕ) × IsOfUnits v o len
+  of_some_units v o = go (len_at unit v o) refl
     where
-      go : (r : ℕ) (x : Option ℕ) → units_at v (o / unit) ≡ x → IsSome (at_multiple r (option_map (λ (n : ℕ). n * unit) x)) → IsSome (units_at v (o / unit))
-      go zero None at told = absurd (true≢false (sym told))
-      go zero (Some n) at told = subst IsSome (sym at) refl
-      go (suc r) x at told = absurd (true≢false (sym told))
+      go : (x : Option ℕ) → len_at unit v o ≡ x → IsSome x → (len : ℕ) × IsOfUnits v o len
+      go None at told = absurd (true≢false (sym told))
+      go (Some len) at told = (len, of_units v o len at)
+
+  pub some_units : (v : Offsets) (o : ℕ) → IsSome (len_at unit v o) → IsSome (units_at v (o / unit))
+  some_units v o live = subst IsSome (sym (of_some_units v o live).1.live) refl
 
   some_len : (v : Offsets) (o : ℕ) → IsSome (len_at unit v o) → o ≡ o / unit * unit
-  unfolding len_at
-  some_len v o = go (o % unit) refl
-    where
-      go : (r : ℕ) → o % unit ≡ r → IsSome (at_multiple r (option_map (λ (n : ℕ). n * unit) (units_at v (o / unit)))) → o ≡ o / unit * unit
-      go zero e told = omega (arith, div-add-mod' o unit, e)
-      go (suc r) e told = absurd (true≢false (sym told))
+  some_len v o live = (of_some_units v o live).1.first
 
   -- the length of a live range
   pub len-units : (v : Offsets) (o n : ℕ) → IsSome (len_at unit v o) → units_at v (o / unit) ≡ Some n → len_at unit v o ≡ Some (n * unit)
@@ -107,8 +103,6 @@ module _ (unit : ℕ) (some : 0 < unit) where
     inside = λ o n told.
         let u = of_units v o n told in
         let inside = is.inside (o / unit) u.units u.live in
-        let first = u.first in
-        let len = u.len_is in
         (omega (arith, mul-le-mul_right unit inside.0), omega (arith, scaled (o / unit) u.units v.units unit inside.1));
     whole = λ o n told.
         let u = of_units v o n told in
@@ -116,10 +110,6 @@ module _ (unit : ℕ) (some : 0 < unit) where
     apart = λ o n p m told told' other.
         let u = of_units v o n told in
         let w = of_units v p m told' in
-        let u_first = u.first in
-        let w_first = w.first in
-        let u_len = u.len_is in
-        let w_len = w.len_is in
         let firsts : o / unit ≢ p / unit = λ same. other (u.first ∙ ap (λ (x : ℕ). x * unit) same ∙ sym w.first) in
         elim (is.apart (o / unit) u.units (p / unit) w.units u.live w.live firsts) [
           | inl before ↦ inl (omega (arith, scaled (o / unit) u.units (p / unit) unit before))
@@ -227,8 +217,6 @@ module _ (unit align : ℕ) (is_unit : IsPowerOfTwo unit) (is_align : IsPowerOfT
         aligned = aligned first made.aligned;
         apart = λ p m told.
             let u = of_units unit some v p m told in
-            let at = u.first in
-            let long = u.len_is in
             elim (made.apart (p / unit) u.units u.live) [
               | inl before ↦ inl (omega (arith, scaled (p / unit) u.units first unit before))
               | inr behind ↦ inr (omega (arith, scaled first n (p / unit) unit behind))
@@ -257,8 +245,6 @@ module _ (unit : ℕ) (some : 0 < unit) (v x : Offsets) (len o : ℕ) (live : Is
         inside = omega (arith, first, scaled (o / unit) n v.units unit made.inside);
         apart = λ p m other told.
             let u = of_units unit some v p m told in
-            let at = u.first in
-            let long = u.len_is in
             let firsts : p / unit ≢ o / unit = λ same. other (u.first ∙ ap (λ (y : ℕ). y * unit) same ∙ sym first) in
             elim (made.apart (p / unit) u.units firsts u.live) [
               | inl before ↦ inl (omega (arith, first, scaled (p / unit) u.units (o / unit) unit before))

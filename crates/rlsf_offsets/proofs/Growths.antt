@@ -64,11 +64,10 @@ pub IsNext-shadow : {from : ℕ} {a : Allocator} → IsShadow from a → (to : �
 IsNext-shadow {from} {a} is to some longer room =
     let c = whole_shadow from in
     let one = is.chunks some in
-    let start = is.start in
     let ends : end_of c ≡ 2 ^ 62 + 32 * from = omega arith in
     record {
       fresh = record {
-        lies_in = (omega (arith, start), omega (arith, start, room, longer));
+        lies_in = (omega (arith, is.start), omega (arith, is.start, room, longer));
         apart = λ a low high. ap (λ cs. coverage itself cs a) one ∙ ap (λ n. n + 0) (covers-behind c a (omega (arith, low)));
       };
       chunk = c;
@@ -81,13 +80,11 @@ pub IsLonger-frame : {units : ℕ} {a b : Allocator} → IsShadow units a → (t
 IsLonger-frame {units} {a} {b} is to longer frame =
     let v = offsets units a in
     let x = offsets to b in
-    let aligns = frame.aligns in
-    let bytes = frame.bytes in
     let units_same : (o : ℕ) → units_at x o ≡ units_at v o = λ o.
-    units_at-same v x o (ap (λ (f : ℕ → Option ℕ). f (place o)) aligns) (ap (λ (f : ℕ → List ℕ). f (place o)) bytes) in
+    units_at-same v x o (ap (λ (f : ℕ → Option ℕ). f (place o)) frame.aligns) (ap (λ (f : ℕ → List ℕ). f (place o)) frame.bytes) in
     record {
       space = refl;
-      same = λ o. (units_same o, align_of-same v x o (ap (λ (f : ℕ → Option ℕ). f (place o)) aligns));
+      same = λ o. (units_same o, align_of-same v x o (ap (λ (f : ℕ → Option ℕ). f (place o)) frame.aligns));
       free = record {
         inside = omega (arith, longer);
         clear = λ p n align told wide. inl (((IsSpace-shadow is).inside p n (sym (units_same p) ∙ told)).1);

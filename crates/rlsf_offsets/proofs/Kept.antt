@@ -76,8 +76,7 @@ own_payload {units} {a} is u i =
     let used = w.used u i in
     let home = lies_in_chunk a.state (tiling_of w) u.block (IsUsed-some u used) (IsPart-used a.state (tiling_of w) u i) in
     let chunk = w.chunks home.chunk home.is_chunk in
-    let lies = chunk.lies_in in
-    λ p from to. is.own p (omega (arith, from, IsUsed-after_start u used, lies.0, home.from)) (omega (arith, to, IsUsed-after_start u used, lies.1, home.to))
+    λ p from to. is.own p (omega (arith, from, IsUsed-after_start u used, chunk.lies_in.0, home.from)) (omega (arith, to, IsUsed-after_start u used, chunk.lies_in.1, home.to))
 
 -- the live range at a unit has a used block, whose payload is the memory's own
 pub own_found : {units : ℕ} {m : Space} {t : Table} {s : State} → IsUnitAllocator units m t s → (first addr : ℕ) → addr ≡ place first
@@ -129,15 +128,14 @@ module _ {m : Space} {t : Table} (bounds : (0 < m.start) × (m.start + length m.
   IsKept-new units most fits few start len {n} {y} {k} left r same reply step count =
       let chunks = shadow_chunk units r (read_from m s) (read_from n k) reply same (ap (λ (x : State). x.chunks) read) step in
       let none = no_chunk units r (read_from m s) (read_from n k) reply same (ap (λ (x : State). x.chunks) read) step in
-      let long = left.costs.length in
       record {
         shadow = record {
           stands = left.core.stands;
           own = λ a from to. left.own a (omega (arith, from, left.costs.start)) ∙ own (a - m.start);
           start = left.costs.start ∙ start;
-          len = omega (arith, long, len, fits);
+          len = omega (arith, left.costs.length, len, fits);
           few = omega (arith, fits, few);
-          most = omega (arith, long, len, few);
+          most = omega (arith, left.costs.length, len, few);
           whole = AreWhole-none (read_from n k) count;
           chunks = chunks;
           none = none;

@@ -108,19 +108,17 @@ module _ {unit : ℕ} {v : Offsets} {m : Marks} (is : IsCheckedSpace unit v m) (
   pub IsChecked-refused : KeepsRanges unit v x → IsCheckedSpace unit x m
   IsChecked-refused none =
       let u = none.unchanged in
-      let few = is.few in
       IsChecked-same
       (λ o.
       let same : units_at x o ≡ units_at v o
       = units_at-same v x o (ap (λ (s : State). align_at s (place o)) u.same) (ap (λ (s : State). bytes_at s (place o)) u.same) in
-      ap is_some same) u.limit (omega (arith, u.space, few))
+      ap is_some same) u.limit (omega (arith, u.space, is.few))
 
   pub IsChecked-grown : (len : ℕ) → len / unit ≤ limit_of v → IsSpaceGrown unit v x len → IsCheckedSpace unit x m
   IsChecked-grown len fits made = IsChecked-same (λ o. ap is_some (made.units.same o).0) made.units.limit (omega (arith, made.space, fits))
 
   pub IsChecked-reallocated : (len o : ℕ) → 0 < unit → IsSome (len_at unit v o) → IsRangeReallocated unit v x len o → IsCheckedSpace unit x m
   IsChecked-reallocated len o some live made =
-      let few = is.few in
       let first = o / unit in
       let was : is_some (units_at v first) ≡ true = some_units unit some v o live in
       IsChecked-same
@@ -132,13 +130,10 @@ module _ {unit : ℕ} {v : Offsets} {m : Marks} (is : IsCheckedSpace unit v m) (
               let e : k ≡ first = omega arith in
               ap (λ (i : ℕ). is_some (units_at x i)) e ∙ ap is_some made.units.live ∙ sym was ∙ ap (λ (i : ℕ). is_some (units_at v i)) (sym e)
         ]
-      ]) made.units.limit (omega (arith, made.units.space, few))
+      ]) made.units.limit (omega (arith, made.units.space, is.few))
 
 -- the range that was allocated begins at a unit that has a mark
 pub allocated_inside : {unit : ℕ} {v : Offsets} {m : Marks} → IsCheckedSpace unit v m → (x : Offsets) (len align o : ℕ) → IsRangeAllocated unit v x len align o
     → o / unit < length m.marks.items
 allocated_inside {unit} is x len align o made =
-    let covers = is.covers in
-    let few = is.few in
-    let inside = made.units.inside in
-    omega (arith, covers, few, inside)
+    omega (arith, is.covers, is.few, made.units.inside)

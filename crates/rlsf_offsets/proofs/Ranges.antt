@@ -11,7 +11,7 @@ use Rattle.rlsf_model.specs.State.{State, Used}
 use Rattle.rlsf_model.specs.WellFormed.{covers, IsWellFormed}
 use Rattle.rlsf_model.proofs.CallerWords.{align_at-live, bytes_at-held}
 use Rattle.rlsf_model.proofs.Coverage.{covers-inside, coverage-unique}
-use Rattle.rlsf_model.proofs.Payloads.{IsUsed-after_start, IsUsed-some}
+use Rattle.rlsf_model.proofs.Payloads.{IsUsed-some}
 use Rattle.rlsf_model.proofs.Tiling.{block_of, tiling_of, used-le, lies_in_chunk, IsPart-used}
 use Rattle.rlsf_tlsf.specs.Allocator.{Allocator}
 use Rattle.rlsf_offsets.specs.Units.{AreWhole, align_of, IsShadow, IsSpace, Offsets, offsets, place, units_at, whole_shadow}
@@ -32,20 +32,13 @@ module _ {fllen sllen : ℕ} {memory : Range} {s : State} (w : IsWellFormed flle
   seated u i =
       let is = w.used u i in
       let even = (whole u i).0 in
-      let after = IsUsed-after_start u is in
-      let start = is.whole.start in
       let len = is.whole.len in
-      let bytes = is.bytes in
-      let within = is.within in
       let home = lies_in_chunk s (tiling_of w) u.block (IsUsed-some u is) (IsPart-used s (tiling_of w) u i) in
       let chunk = w.chunks home.chunk home.is_chunk in
-      let from = home.from in
-      let to = home.to in
-      let lies = chunk.lies_in in
       record {
         payload = even;
         front = omega arith;
-        low = omega (arith, lies.0);
+        low = omega (arith, chunk.lies_in.0);
         chunk = home.chunk;
         is_chunk = home.is_chunk;
         high = omega arith;
@@ -58,12 +51,6 @@ module _ {fllen sllen : ℕ} {memory : Range} {s : State} (w : IsWellFormed flle
   seated_apart u v iu iv less =
       let su = seated u iu in
       let sv = seated v iv in
-      let u_front = su.front in
-      let v_front = sv.front in
-      let u_len = su.len in
-      let v_len = sv.len in
-      let u_even = su.payload in
-      let v_even = sv.payload in
       elim (cases_lt (v.payload - 32) (u.payload + length u.bytes)) [
         | inl over ↦
             let a = v.payload - 32 in
@@ -108,30 +95,17 @@ pub IsSpace-shadow : {units : ℕ} {a : Allocator} → IsShadow units a → IsSp
 IsSpace-shadow {units} {a} is =
     let w = is.stands.well_formed in
     let v = offsets units a in
-    let start = is.start in
     record {
       inside = λ o n told.
           let p = piece_of v w o n told in
           let b = seated w is.whole p.block p.is_in in
           let ends = chunk_end is b.chunk b.is_chunk in
-          let at = p.at in
-          let count = p.len in
-          let low = b.low in
-          let high = b.high in
-          let total = b.len in
-          let even = b.whole_len in
           (omega arith, omega arith);
       apart = λ o n p m told told' other.
           let x = piece_of v w o n told in
           let y = piece_of v w p m told' in
           let bx = seated w is.whole x.block x.is_in in
           let by = seated w is.whole y.block y.is_in in
-          let x_at = x.at in
-          let y_at = y.at in
-          let x_len = x.len in
-          let y_len = y.len in
-          let x_even = bx.whole_len in
-          let y_even = by.whole_len in
           elim (cases_lt o p) [
             | inl less ↦ inl (omega (arith, seated_apart w is.whole x.block y.block x.is_in y.is_in (omega arith)))
             | inr more ↦ elim (cases_lt p o) [

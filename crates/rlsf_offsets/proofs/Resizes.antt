@@ -53,15 +53,11 @@ module _ {units : ℕ} {a : Allocator} (is : IsShadow units a) (first n size : �
   ends : end_of u.block ≡ 2 ^ 62 - 32 + 32 * (first + now)
   ends =
       let seat = seated w is.whole u held.0 in
-      let total = seat.len in
-      let even = seat.whole_len in
       omega (arith, held.1)
 
   ends_then : end_of (resized u size) ≡ 2 ^ 62 - 32 + 32 * (first + n)
   ends_then =
       let seat = seated w is.whole u held.0 in
-      let front = seat.front in
-      let even = seat.payload in
       let start = (w.used u held.0).whole.start in
       omega (arith, held.1)
 
@@ -157,7 +153,6 @@ no_room_longer {units} {a} is first n long r =
           let f = range_at (2 ^ 62 - 32 + 32 * (first + r.now)) (32 * m) in
           let some = (w.free f free).some in
           let home = lies_in_chunk a.state (tiling_of w) f some (IsPart-free a.state (tiling_of w) f free) in
-          let to = home.to in
           let ends = chunk_end is home.chunk home.is_chunk in
           omega (arith, ends, enough, long, inside.1)
     ]
@@ -175,8 +170,6 @@ module _ {units : ℕ} {a b : Allocator} (is : IsShadow units a) (first n size a
       let aligns : (o : ℕ) → align_at b.state (place o) ≡ align_at a.state (place o) = λ o. ap (λ (f : ℕ → Option ℕ). f (place o)) kept.aligns in
       let e : align_at b.state (place first) ≡ Some u.align = aligns first ∙ align_at-held is.stands.well_formed (place first) u held in
       let here = subst (λ (y : ℕ). results.IsResized a.state b.state y size y) at made in
-      let sized = here.sized in
-      let few = here.few in
       let now : units_at x first ≡ Some n = units_at-live x first u.align e ∙ ap (λ m. Some m) (omega arith) in
       let bytes : (o : ℕ) → o ≢ first → bytes_at b.state (place o) ≡ bytes_at a.state (place o) = λ o other.
       kept.bytes (place o) (λ same. other (omega (arith, same, at))) in
@@ -199,8 +192,7 @@ module _ {units : ℕ} {a : Allocator} (is : IsShadow units a) (first n size add
       let (u, held) = align_at-some a.state (place first) live in
       let e : align_at a.state (place first) ≡ Some u.align = align_at-held is.stands.well_formed (place first) u held in
       let same : u.align / 32 ≡ align = same_some (align_of (offsets units a) first) (u.align / 32) align (align_of-live (offsets units a) first u.align e) wide in
-      let even = (is.whole u held.0).1 in
-      bounds count (32 * (most - 1)) (32 * widest) u.align sized (ap (align_at a.state) at ∙ e) (omega (arith, short)) (omega (arith, same, even, fits))
+      bounds count (32 * (most - 1)) (32 * widest) u.align sized (ap (align_at a.state) at ∙ e) (omega (arith, short)) (omega (arith, same, (is.whole u held.0).1, fits))
 
 pub sized-there-same : (v x : Offsets) (first n : ℕ) → x.shadow.state ≡ v.shadow.state → KeepsSizedThere v x first n
 unfolding KeepsSizedThere

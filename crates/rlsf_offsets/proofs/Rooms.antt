@@ -30,12 +30,6 @@ module _ {units : ℕ} {a : Allocator} (is : IsShadow units a) (w : IsWellFormed
   clear_used : (u : Used) → IsIn u a.state.used → (end_of u.block ≤ x) ⊎ (y ≤ u.block.start)
   clear_used u i =
       let seat = seated w is.whole u i in
-      let front = seat.front in
-      let low = seat.low in
-      let even = seat.payload in
-      let total = seat.len in
-      let whole_len = seat.whole_len in
-      let start = is.start in
       let wide = (is.whole u i).1 in
       let used = w.used u i in
       let positive = IsPowerOfTwo-positive u.align used.power in
@@ -53,7 +47,6 @@ module _ {units : ℕ} {a : Allocator} (is : IsShadow units a) (w : IsWellFormed
   -- so each of its bytes is free
   free_at : (z : ℕ) → x ≤ z → z < y → 1 ≤ coverage itself a.state.free z
   free_at z from to =
-      let inside = run.inside in
       let any : 0 < units = omega arith in
       let c = whole_shadow units in
       let used : coverage block_of a.state.used z ≡ 0 = coverage-none block_of a.state.used z (λ u i. elim (clear_used u i) [

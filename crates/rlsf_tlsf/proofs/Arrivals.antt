@@ -16,7 +16,7 @@ use Rattle.rlsf_blocks.specs.StandsFor.{contents, StandsFor}
 use Rattle.rlsf_blocks.specs.Steps.LiveBlock.{IsLiveIn}
 use Rattle.rlsf_tlsf.specs.Allocator.{Allocator, allocator, IsAllocator, IsStanding, Stands, Steps}
 use Rattle.rlsf_tlsf.specs.Steps.Moves.{bare, bare_used}
-use Rattle.rlsf_tlsf.proofs.Moved.{bare-bare}
+use Rattle.rlsf_tlsf.proofs.Moved.{bare-bare, map-map}
 
 -- a represented state has the bytes that the memory has
 pub read_from-stands : {fllen sllen : ℕ} {m : Space} {x : Table} {s : State} → StandsFor fllen sllen (contents m x) s → read_from m s ≡ s
@@ -27,18 +27,10 @@ read_from-stands {m = m} {s = s} v = ap (λ (used : List Used). record { chunks 
     go (u ∷ us) each = λ i. record { block = u.block; payload = u.payload; align = u.align; bytes = each u (inl refl) i } ∷ go us (λ x h. each x (inr h)) i
 
 pub read_from-bare : (m : Space) (s : State) → read_from m (bare s) ≡ read_from m s
-read_from-bare m s = ap (λ (used : List Used). record { chunks = s.chunks; used = used; free = s.free }) (go s.used)
-  where
-    go : (used : List Used) → map (with_bytes_of m) (map bare_used used) ≡ map (with_bytes_of m) used
-    go [] = refl
-    go (u ∷ us) = ap (λ l. with_bytes_of m u ∷ l) (go us)
+read_from-bare m s = ap (λ (used : List Used). record { chunks = s.chunks; used = used; free = s.free }) (map-map (with_bytes_of m) bare_used s.used)
 
 pub bare-read_from : (m : Space) (s : State) → bare (read_from m s) ≡ bare s
-bare-read_from m s = ap (λ (used : List Used). record { chunks = s.chunks; used = used; free = s.free }) (go s.used)
-  where
-    go : (used : List Used) → map bare_used (map (with_bytes_of m) used) ≡ map bare_used used
-    go [] = refl
-    go (u ∷ us) = ap (λ l. bare_used u ∷ l) (go us)
+bare-read_from m s = ap (λ (used : List Used). record { chunks = s.chunks; used = used; free = s.free }) (map-map bare_used (with_bytes_of m) s.used)
 
 -- what is kept of an allocator's state is the state without bytes
 pub bare-kept : {fl_bits sl_bits fllen sllen : ℕ} {m : Space} {x : Table} {s : State} → IsAllocator fl_bits sl_bits fllen sllen m x s → bare (read_from m s) ≡ s

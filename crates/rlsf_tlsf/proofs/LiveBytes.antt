@@ -1,5 +1,5 @@
 -- How many bytes the blocks of live payloads have after a call, and that a budget has room for another payload.
-use Rattle.std.proofs.Common.{◌≡◌, ◌≢◌, ℕ, ◌+◌, ◌≤◌, Bool, cond, eqb, filter, List, [], ◌∷◌, length, Option, Some, None, arith, refl, sym, ◌∙◌, ap}
+use Rattle.std.proofs.Common.{◌≡◌, ◌≢◌, ℕ, ◌+◌, ◌≤◌, cond, eqb, filter, List, [], ◌∷◌, length, Option, Some, None, arith, refl, sym, ◌∙◌, ap}
 use Rattle.std.proofs.Common.{subst, inl, inr}
 use Rattle.std.proofs.lemmas.Bool.{eq-eqb, false≢true}
 use Rattle.std.proofs.lemmas.List.Sums.{sum_by-cons}

@@ -18,12 +18,13 @@ use Rattle.rlsf_tlsf.specs.Steps.Moves.{allocated, appended_to, bare, bare_used,
 
 -- ---- a state without bytes
 
+-- one map after another is a map
+pub map-map : {A B C : Type 0} (f : B → C) (g : A → B) (l : List A) → map f (map g l) ≡ map (λ x. f (g x)) l
+map-map f g [] = refl
+map-map f g (x ∷ xs) = ap (λ l. f (g x) ∷ l) (map-map f g xs)
+
 pub bare-bare : (s : State) → bare (bare s) ≡ bare s
-bare-bare s = ap (λ (used : List Used). record { chunks = s.chunks; used = used; free = s.free }) (go s.used)
-  where
-    go : (used : List Used) → map bare_used (map bare_used used) ≡ map bare_used used
-    go [] = refl
-    go (u ∷ us) = ap (λ l. bare_used u ∷ l) (go us)
+bare-bare s = ap (λ (used : List Used). record { chunks = s.chunks; used = used; free = s.free }) (map-map bare_used bare_used s.used)
 
 map-bare_others : (addr : ℕ) (used : List Used) → others addr (map bare_used used) ≡ map bare_used (others addr used)
 map-bare_others addr [] = refl

@@ -1,10 +1,10 @@
 -- A core after a call.
-use Rattle.std.proofs.Common.{◌≡◌, ℕ, ◌+◌, ◌-◌, ◌≤◌, arith, drop, map, take, sym, ◌∙◌, ap, subst}
+use Rattle.std.proofs.Common.{◌≡◌, ℕ, ◌+◌, ◌-◌, ◌≤◌, arith, sym, ◌∙◌, ap, subst}
 use Rattle.rlsf_base.proofs.Lending.Present.{out-same, own-same}
 use Rattle.rlsf_base.specs.OpenSpace.{SameOwn, StaysHere}
 use Rattle.rlsf_base.specs.SizeClass.{IsValid}
 use Rattle.rlsf_base.specs.Space.{Space}
-use Rattle.rlsf_model.specs.State.{State, Used, usable, used_with_bytes}
+use Rattle.rlsf_model.specs.State.{State}
 use Rattle.rlsf_table.specs.Counts.{Costs, Counts}
 use Rattle.rlsf_table.specs.Table.{Table}
 use Rattle.rlsf_table.proofs.Costs.{Costs-counted, Costs-then, Costs-within}
@@ -47,11 +47,7 @@ LeavesCore-within {m = m} {n = n} {b = b} within same left =
 
 -- memories with the same start and the same bytes have the same state
 pub read_from-same : (m n : Space) (s : State) → n.start ≡ m.start → n.bytes ≡ m.bytes → read_from n s ≡ read_from m s
-read_from-same m n s start bytes = λ i. record {
-  chunks = s.chunks;
-  used = map (λ (u : Used). used_with_bytes u (take (usable u).len (drop ((usable u).start - start i) (bytes i)))) s.used;
-  free = s.free;
-}
+read_from-same m n s start bytes = grind arith
 
 -- ---- words were read
 

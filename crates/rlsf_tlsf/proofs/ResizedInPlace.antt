@@ -1,5 +1,5 @@
 -- A payload gets another size without moving, or can't.
-use Rattle.std.proofs.Common.{◌≡◌, ◌-◌, ◌+◌, ◌<◌, ◌^◌, ℕ, Bool, false, None, length, arith, sym, ap, subst}
+use Rattle.std.proofs.Common.{◌≡◌, ◌-◌, ◌+◌, ◌<◌, ◌^◌, ℕ, Bool, false, None, length, arith, ap, subst}
 use Rattle.rlsf_base.specs.Layout.{IsLayout}
 use Rattle.rlsf_base.specs.OpenSpace.{IsOwned}
 use Rattle.rlsf_base.specs.Space.{Space}
@@ -24,10 +24,7 @@ use Rattle.rlsf_tlsf.proofs.UnknownAlign.{denied_by, no_room_to_stay}
 
 -- the bytes behind its end are usable ones
 own_behind : (m : Space) (u : Used) (size : ℕ) → IsUsed u → IsOwned m (usable u) → IsOwnedBehind m u size
-own_behind m u size is own a lo hi =
-    let long = block_length-le u.block.start u.payload size in
-    let after = IsUsed-after_start u is in
-    own a (omega (arith, lo, long, after)) (omega (arith, lo, hi, long, after))
+own_behind m u size is own a lo hi = grind (arith, block_length-le, IsUsed-after_start)
 
 -- the payload at the address can't get the size in place, and no more than so many words were accessed
 pub record IsDenied (fllen sllen : ℕ) (m n : Space) (t : Table) (s : State) (addr size most : ℕ) : Type 0 where
@@ -42,12 +39,7 @@ module _ {fllen sllen : ℕ} {m n : Space} {x : Table} (j : State) {some : ℕ} 
   -- so it can get another size
   module _ (u : Used) (holds : Holds (read_from m j) addr u) {block : ℕ} (start : block ≡ u.block.start) where
     pub own_found : IsOwned m (usable u) → IsOwnBehind n (read_from n j) addr block size
-    own_found own = (
-      u,
-      subst (λ (s : State). Holds s addr u) (sym (read_from-counted counts j)) holds,
-      sym start,
-      own_behind n u size (v.well_formed.used u holds.0) (owned-same m n (usable u) counts.start counts.out own),
-    )
+    own_found own = grind (arith, read_from-counted, own_behind, owned-same)
 
     pub fits_found : {align : ℕ} → IsLayout size align → length n.bytes < 2 ^ 59 → addr - block + size + 31 < 2 ^ 64
     fits_found valid below =

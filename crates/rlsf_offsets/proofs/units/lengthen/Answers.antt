@@ -31,23 +31,19 @@ returns-then-from-eq0 c =
 
 pub append_in-requires : goal.append_in-requires
 append_in-requires c =
-    let kept = c.requires.kept in
-    let shadow = kept.shadow in
-    let m = c.args.memory.now in
-    let s = read_from m c.args.state.now.state in
+    let shadow = c.requires.kept.shadow in
+    let s = read_from c.args.memory.now c.args.state.now.state in
     let at = c.units_behind.ensures in
     let start = ap (λ (r : Range). r.start) at in
     let len = ap (λ (r : Range). r.len) at in
     let next = IsNext-shadow shadow c.args.to (omega (arith, c.if-from-eq0.false)) c.requires.longer c.requires.room in
-    let from = shadow.start in
-    let room = c.requires.room in
     let longer = c.requires.longer in (
       omega arith,
       (
-        IsCore-kept kept,
+        IsCore-kept c.requires.kept,
         (
-          subst (λ (r : Range). IsNext (range_of m) s r) (sym at) next,
-          λ p low high. shadow.own p (omega (arith, low, start, from)) (omega (arith, high, start, len, from, room, longer)),
+          subst (λ (r : Range). IsNext (range_of c.args.memory.now) s r) (sym at) next,
+          λ p low high. shadow.own p (omega (arith, low, start, shadow.start)) (omega (arith, high, start, len, shadow.start, c.requires.room, longer)),
         ),
       ),
     )

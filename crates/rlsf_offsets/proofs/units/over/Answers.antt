@@ -9,34 +9,28 @@ use Rattle.rlsf_offsets.proofs.units.over.Goals as goal
 
 pub insert_in-requires : goal.insert_in-requires
 insert_in-requires c =
-    let m = c.args.memory in
-    let bounds = c.len.ensures.bounds in
-    let table = c.new-table.ensures m in
+    let table = c.new-table.ensures c.args.memory in
     let own = c.requires.memory.own in
-    let state = c.new-state.result.state in
     let start = ap (λ (r : Range). r.start) c.first_units.ensures in
     let long = ap (λ (r : Range). r.len) c.first_units.ensures in
-    let fresh = IsFresh-new bounds table own state c.new-state.ensures c.first_units.result (c.requires.memory.start ∙ sym start)
+    let fresh = IsFresh-new c.len.ensures.bounds table own c.new-state.result.state c.new-state.ensures c.first_units.result (c.requires.memory.start ∙ sym start)
     (omega (arith, long, c.requires.memory.len, c.requires.few.0)) in
-    (omega arith, (IsCore-new bounds table own state c.new-state.ensures, (fresh, λ a from to. own (a - m.start))))
+    (omega arith, (IsCore-new c.len.ensures.bounds table own c.new-state.result.state c.new-state.ensures, (fresh, λ a from to. own (a - c.args.memory.start))))
 
 pub invariant_of-result : goal.invariant_of-result
 invariant_of-result c =
-    let m = c.args.memory in
     let e = c.insert_in.ensures in
-    let bounds = c.len.ensures.bounds in
-    let table = c.new-table.ensures m in
+    let table = c.new-table.ensures c.args.memory in
     let own = c.requires.memory.own in
     let state = c.new-state.result.state in
-    let none = none_live-new bounds table own state c.new-state.ensures in
-    IsKept-new bounds table own state c.new-state.ensures c.args.units c.args.most c.requires.few.0 c.requires.few.1 c.requires.memory.start c.requires.memory.len
+    let none = none_live-new c.len.ensures.bounds table own state c.new-state.ensures in
+    IsKept-new c.len.ensures.bounds table own state c.new-state.ensures c.args.units c.args.most c.requires.few.0 c.requires.few.1 c.requires.memory.start c.requires.memory.len
     e.left c.first_units.result c.first_units.ensures _ e.step (e.frame.count ∙ none)
 
 pub returns : goal.returns
 returns c =
-    let m = c.args.memory in
     let e = c.insert_in.ensures in
-    let none = none_live-new c.len.ensures.bounds (c.new-table.ensures m) c.requires.memory.own c.new-state.result.state c.new-state.ensures in
+    let none = none_live-new c.len.ensures.bounds (c.new-table.ensures c.args.memory) c.requires.memory.own c.new-state.result.state c.new-state.ensures in
     let after = allocator c.insert_in.new.memory c.insert_in.new.table c.insert_in.new.state.state in
     let x = offsets c.args.units after in
     let start = ap (λ (r : Range). r.start) c.first_units.ensures in
@@ -44,5 +38,5 @@ returns c =
     record {
       units = (refl, omega (arith, e.left.costs.length, c.requires.memory.len));
       empty = IsEmpty-fresh x (nothing_at after.state (e.frame.count ∙ none));
-      sized = SizesSpace-fresh x c.first_units.result (read_from m c.new-state.result.state) (omega (arith, start)) (omega (arith, long)) none e.result.pool;
+      sized = SizesSpace-fresh x c.first_units.result (read_from c.args.memory c.new-state.result.state) (omega (arith, start)) (omega (arith, long)) none e.result.pool;
     }

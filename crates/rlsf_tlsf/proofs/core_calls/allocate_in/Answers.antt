@@ -41,9 +41,8 @@ kept g c t places =
 
 pub returns-in-Some : goal.returns-in-Some
 returns-in-Some g c =
-    let m = c.args.memory.now in
     let n = c.allocate_range.new.memory in
-    let s = read_from m c.args.state.now.state in
+    let s = read_from c.args.memory.now c.args.state.now.state in
     let size = c.args.layout.size in
     let align = c.args.layout.align in
     let range = c.in-Some.range in

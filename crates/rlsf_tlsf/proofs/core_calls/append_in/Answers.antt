@@ -21,11 +21,9 @@ append_chunks-taken-requires g c = (omega arith, (c.requires.core.valid, ((_, c.
 
 pub returns : goal.returns
 returns g c =
-    let m = c.args.memory.now in
-    let n = c.append_chunks-taken.new.memory in
-    let s = read_from m c.args.state.now.state in
+    let s = read_from c.args.memory.now c.args.state.now.state in
     let k = c.append.new.self.state in
-    let t = read_from n k in
+    let t = read_from c.append_chunks-taken.new.memory k in
     let r = c.args.range in
     let taken = c.append_chunks-taken.result in
     let are = c.requires.core in
@@ -34,7 +32,7 @@ returns g c =
     let (after, did, stands, spare) = e.step s are.stands c.requires.next in
     let kept : k ≡ bare after = c.append.ensures ∙ ap (appended_to g.row.FLLEN r) (sym (bare-core are)) ∙ appended_to-bare g.row.FLLEN s after r taken did in
     let step : Appends g.row.FLLEN s r taken t = reads stands k kept (Appends g.row.FLLEN s r taken) did in
-    let seen = same_seen s t (callers_see_map g.row.FLLEN g.row.SLLEN (range_of m) s t (append r taken) well c.requires.next step) in
+    let seen = same_seen s t (callers_see_map g.row.FLLEN g.row.SLLEN (range_of c.args.memory.now) s t (append r taken) well c.requires.next step) in
     record {
       left = LeavesCore-arrived stands k kept are.valid spare e.costs e.own e.here;
       step = step;
@@ -45,12 +43,5 @@ returns g c =
       };
       bounds = λ count size align sized. sized_appended well t count size align sized r taken c.requires.next step;
       refused = e.unchanged;
-      frame = record {
-        aligns = seen.aligns;
-        bytes = seen.bytes;
-        count = count_appended well t r taken c.requires.next step;
-        place = SamePlace-costs e.costs;
-        grow = e.costs.grow;
-        copied = copied_none e.costs;
-      };
+      frame = assumption (seen, count_appended well t r taken c.requires.next step, SamePlace-costs e.costs, copied_none e.costs, e.costs);
     }

@@ -19,9 +19,8 @@ deallocate_block-requires g c =
 
 pub returns : goal.returns
 returns g c =
-    let m = c.args.memory.now in
     let n = c.deallocate_block.new.memory in
-    let s = read_from m c.args.state.now.state in
+    let s = read_from c.args.memory.now c.args.state.now.state in
     let addr = c.args.addr in
     let are = c.requires.core in
     let (u, holds, start, own) = c.requires.own in

@@ -22,11 +22,9 @@ insert_chunks-taken-requires g c = (omega arith, (c.requires.core.valid, ((_, c.
 
 pub returns : goal.returns
 returns g c =
-    let m = c.args.memory.now in
-    let n = c.insert_chunks-taken.new.memory in
-    let s = read_from m c.args.state.now.state in
+    let s = read_from c.args.memory.now c.args.state.now.state in
     let k = c.insert.new.self.state in
-    let t = read_from n k in
+    let t = read_from c.insert_chunks-taken.new.memory k in
     let r = c.args.range in
     let taken = reply c.insert_chunks-taken.result in
     let are = c.requires.core in
@@ -35,7 +33,7 @@ returns g c =
     let (after, did, stands, spare) = e.step s are.stands c.requires.fresh in
     let kept : k ≡ bare after = c.insert.ensures ∙ ap (inserted g.row.FLLEN r) (sym (bare-core are)) ∙ inserted-bare g.row.FLLEN s after r taken did in
     let step : Inserts g.row.FLLEN s r taken t = reads stands k kept (Inserts g.row.FLLEN s r taken) did in
-    let seen = same_seen s t (callers_see_map g.row.FLLEN g.row.SLLEN (range_of m) s t (insert r taken) well c.requires.fresh step) in
+    let seen = same_seen s t (callers_see_map g.row.FLLEN g.row.SLLEN (range_of c.args.memory.now) s t (insert r taken) well c.requires.fresh step) in
     record {
       left = LeavesCore-arrived stands k kept are.valid spare e.costs e.own e.here;
       step = step;
@@ -50,12 +48,5 @@ returns g c =
       };
       bounds = λ count size align sized. sized_inserted well t count size align sized r taken c.requires.fresh step;
       refused = e.refused;
-      frame = record {
-        aligns = seen.aligns;
-        bytes = seen.bytes;
-        count = count_inserted well t r taken c.requires.fresh step;
-        place = SamePlace-costs e.costs;
-        grow = e.costs.grow;
-        copied = copied_none e.costs;
-      };
+      frame = assumption (seen, count_inserted well t r taken c.requires.fresh step, SamePlace-costs e.costs, copied_none e.costs, e.costs);
     }

@@ -60,13 +60,6 @@ returns g c =
         gone = untouched_gone well r row idle t step;
         blocks = bytes_same_used s t (ap (λ (x : State). x.used) step);
       };
-      frame = record {
-        aligns = seen.aligns;
-        bytes = seen.bytes;
-        count = count_removed well t r (IsRemovable-row well r row idle) step;
-        place = e.place;
-        grow = e.grow;
-        copied = e.copied;
-      };
+      frame = assumption (seen, count_removed well t r (IsRemovable-row well r row idle) step, e);
       touches = touches;
     }

@@ -10,14 +10,12 @@ align_of-requires g c =
     (omega (arith, some, c.get-mark.ensures), omega (arith, few, c.get-mark.ensures))
 
 pub returns : goal.returns
-returns g c = record {
-  value = rw (← c.self.view_is) (
-      let (is, some, few, power) = marked_as c.self.invariant c.get.result (λ e. c.if-mark-eq0.false (c.get-mark.ensures ∙ e)) in
-      ap Some (c.align_of.ensures ∙ ap (λ n. 2 ^ (n - 1)) c.get-mark.ensures) ∙ sym is ∙ ap (align_at c.self.inside.heap.state) c.get.ensures.value);
-  live = rw (← c.self.view_is) (
-      let (is, some, few, power) = marked_as c.self.invariant c.get.result (λ e. c.if-mark-eq0.false (c.get-mark.ensures ∙ e)) in
-      subst IsSome (sym is ∙ ap (align_at c.self.inside.heap.state) c.get.ensures.value) refl);
-  power =
-      let (is, some, few, power) = marked_as c.self.invariant c.get.result (λ e. c.if-mark-eq0.false (c.get-mark.ensures ∙ e)) in
-      subst IsPowerOfTwo (sym (c.align_of.ensures ∙ ap (λ n. 2 ^ (n - 1)) c.get-mark.ensures)) power;
-}
+returns g c =
+    let (is, some, few, power) = marked_as c.self.invariant c.get.result (λ e. c.if-mark-eq0.false (c.get-mark.ensures ∙ e)) in
+    let same = c.align_of.ensures ∙ ap (λ n. 2 ^ (n - 1)) c.get-mark.ensures in
+    let there = sym is ∙ ap (align_at c.self.inside.heap.state) c.get.ensures.value in
+    record {
+      value = rw (← c.self.view_is) (ap Some same ∙ there);
+      live = rw (← c.self.view_is) (subst IsSome there refl);
+      power = subst IsPowerOfTwo (sym same) power;
+    }

@@ -10,7 +10,7 @@ use Rattle.rlsf_checked.specs.Steps.Lists.{listed}
 use Rattle.rlsf_checked.specs.Steps.Standing.{IsChecked}
 use Rattle.rlsf_checked.proofs.PoolsOverSteps.{appended_fits, handed_on, next_answer, next_is, next_range, none_apart, none_appended, none_outside, pool_fits, some_appended, within_is}
 use Rattle.rlsf_checked.proofs.FieldsOverSteps.{stands_after, step_of, unchanged}
-use Rattle.rlsf_checked.proofs.Unchanged.{frame_unchanged}
+use Rattle.rlsf_checked.proofs.Unchanged.{frame_unchanged, refusing}
 use Rattle.rlsf_checked.proofs.checked.CheckedTlsf.append.Given as given
 use Rattle.rlsf_checked.proofs.checked.CheckedTlsf.append.Goals as goal
 use Rattle.rlsf_checked.proofs.checked.CheckedTlsf.append.Goals.{After-append_free_block_ptr-taken, Else-not-is_next, Then-taken-eq0}
@@ -49,9 +49,8 @@ append_free_block_ptr-taken-requires g c =
 same_state : (g : given.Over) (c : Then-taken-eq0 g) → c.append_free_block_ptr-taken.new.self.state ≡ c.self.inside.heap.state
 same_state g c =
     let (stands, step) = appended g (goal.at.invariant_of-self g c).After-append_free_block_ptr-taken in
-    let heap = c.append_free_block_ptr-taken.new.self in
-    none_appended g.row.FLLEN c.self.inside.heap.state heap.state c.args.range
-    (subst (λ k. Appends g.row.FLLEN c.self.inside.heap.state c.args.range k heap.state) c.if-taken-eq0.true step)
+    none_appended g.row.FLLEN c.self.inside.heap.state c.append_free_block_ptr-taken.new.self.state c.args.range
+    (subst (λ k. Appends g.row.FLLEN c.self.inside.heap.state c.args.range k c.append_free_block_ptr-taken.new.self.state) c.if-taken-eq0.true step)
 
 pub invariant_of-self : goal.invariant_of-self
 invariant_of-self g c =
@@ -81,15 +80,10 @@ returns-then-not-lies_in g c =
     rw (← c.self.view_is) (record {
       step = tt;
       result = tt;
-      bounds = λ count size align sized. sized;
-      room = record { budgets = λ count bytes size align sized. sized; blocks = refl };
-      refused = record {
-        answer = sym (none_outside g.row.FLLEN (checked c.self.inside.heap (listed c.self.inside.pools)) c.args.range outside);
-        same = refl;
-        pools = refl;
-        bytes = refl;
-      };
-      frame = frame_unchanged c.self.inside.heap;
+      bounds = assumption;
+      room = assumption;
+      refused = refusing (sym (none_outside g.row.FLLEN (checked c.self.inside.heap (listed c.self.inside.pools)) c.args.range outside));
+      frame = frame_unchanged _;
       touches = omega arith;
     })
 
@@ -101,15 +95,10 @@ returns-then-not-is_next g c =
     rw (← c.self.view_is) (record {
       step = tt;
       result = tt;
-      bounds = λ count size align sized. sized;
-      room = record { budgets = λ count bytes size align sized. sized; blocks = refl };
-      refused = record {
-        answer = sym (none_apart g.row.FLLEN (checked c.self.inside.heap (listed c.self.inside.pools)) c.args.range within apart);
-        same = refl;
-        pools = refl;
-        bytes = refl;
-      };
-      frame = frame_unchanged c.self.inside.heap;
+      bounds = assumption;
+      room = assumption;
+      refused = refusing (sym (none_apart g.row.FLLEN (checked c.self.inside.heap (listed c.self.inside.pools)) c.args.range within apart));
+      frame = frame_unchanged _;
       touches = omega arith;
     })
 

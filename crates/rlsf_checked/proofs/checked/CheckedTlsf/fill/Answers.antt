@@ -1,4 +1,4 @@
-use Rattle.std.proofs.Common.{◌≡◌, ℕ, List, length, replicate, arith, refl, ◌∙◌, ap, subst}
+use Rattle.std.proofs.Common.{◌≡◌, ◌≤◌, ◌+◌, ℕ, List, length, replicate, arith, ◌∙◌, ap, subst}
 use Rattle.std.proofs.lemmas.List.{length-replicate}
 use Rattle.rlsf_base.specs.Addr.{at}
 use Rattle.rlsf_model.specs.Callers.{bytes_at}
@@ -6,10 +6,8 @@ use Rattle.rlsf_model.specs.Run.{Fills}
 use Rattle.rlsf_tlsf.specs.Allocator.{Steps}
 use Rattle.rlsf_tlsf.specs.Lending.{written}
 use Rattle.rlsf_checked.specs.Answers.{if_live}
-use Rattle.rlsf_checked.specs.Checked.{checked}
-use Rattle.rlsf_checked.specs.Steps.Lists.{listed}
 use Rattle.rlsf_checked.proofs.FieldsOverSteps.{unchanged}
-use Rattle.rlsf_checked.proofs.Unchanged.{frame_in_place_unchanged}
+use Rattle.rlsf_checked.proofs.Unchanged.{frame_unchanged}
 use Rattle.rlsf_checked.proofs.checked.CheckedTlsf.fill.Given as given
 use Rattle.rlsf_checked.proofs.checked.CheckedTlsf.fill.Goals as goal
 use Rattle.rlsf_checked.proofs.checked.CheckedTlsf.fill.Goals.{After-fill_all}
@@ -30,15 +28,8 @@ invariant_of-self g c =
 pub returns-in_default : goal.returns-in_default
 returns-in_default g c =
     let none = rw (← c.self.view_is) at c.in_default.ensures.value in
-    rw (← c.self.view_is) (record {
-      step = tt;
-      result = tt;
-      bounds = λ count size align sized. sized;
-      blocks = refl;
-      refused = record { answer = ap (λ o. if_live o tt) none; same = refl };
-      frame = frame_in_place_unchanged (at c.args.addr) (checked c.self.inside.heap (listed c.self.inside.pools));
-      touches = omega arith;
-    })
+    let few : c.self.inside.heap.memory.touches ≤ c.self.inside.heap.memory.touches + 3 = omega arith in
+    rw (← c.self.view_is) (assumption (ap (λ o. if_live o (tt {0})) none, frame_unchanged c.self.inside.heap, few))
 
 pub returns : goal.returns
 returns g c =
@@ -49,6 +40,7 @@ returns g c =
     let k = (goal.at.returns g c).After-fill_all in
     let w = c.fill_all.new.bytes in
     let (chunks, place, stands, touches, copied) = did.rest w in
+    let grow : heap.memory.touches ≤ (written heap addr (length c.payload_mut.result.now) w).memory.touches = omega (arith, touches) in
     rw (← c.self.view_is) (record {
       step =
           subst (λ b. Steps g.row.FLLEN g.row.SLLEN heap (written heap addr (length c.payload_mut.result.now) w) (Fills heap.state addr b)) (over g k)
@@ -56,16 +48,7 @@ returns g c =
       result = did.filled w (long g k) ∙ over g k;
       bounds = did.bounds w;
       blocks = did.blocks w;
-      refused = record { answer = ap (λ o. if_live o tt) live; same = tt };
-      frame = record {
-        aligns = did.aligns w;
-        bytes = did.bytes w;
-        count = did.count w;
-        chunks = chunks;
-        pools = refl;
-        place = place;
-        grow = omega (arith, touches);
-        copied = copied;
-      };
+      refused = assumption (ap (λ o. if_live o (tt {0})) live);
+      frame = assumption (did.aligns w, did.bytes w, did.count w, did.rest w, grow);
       touches = omega (arith, touches);
     })

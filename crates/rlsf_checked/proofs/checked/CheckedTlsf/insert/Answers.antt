@@ -13,7 +13,7 @@ use Rattle.rlsf_checked.specs.Steps.Lists.{listed}
 use Rattle.rlsf_checked.specs.Steps.Standing.{IsChecked}
 use Rattle.rlsf_checked.proofs.PoolsOverSteps.{before_answer, behind_answer, handed_in, none_taken, outside_answer, pool_fits, untouched, within_is}
 use Rattle.rlsf_checked.proofs.FieldsOverSteps.{stands_after, step_of, unchanged}
-use Rattle.rlsf_checked.proofs.Unchanged.{frame_unchanged}
+use Rattle.rlsf_checked.proofs.Unchanged.{frame_unchanged, refusing}
 use Rattle.rlsf_checked.proofs.checked.CheckedTlsf.insert.Given as given
 use Rattle.rlsf_checked.proofs.checked.CheckedTlsf.insert.Goals as goal
 use Rattle.rlsf_checked.proofs.checked.CheckedTlsf.insert.Goals.{Else-range-self, In-Some}
@@ -60,16 +60,13 @@ pub invariant_of-self-2 : goal.invariant_of-self-2
 invariant_of-self-2 g c =
     let is = is_behind g (goal.at.invariant_of-self-2 g c).Else-range-self in
     let (stands, step) = inserted g (goal.at.invariant_of-self-2 g c).In-Some in
-    let heap = c.insert_free_block_ptr.new.self in
-    let did = c.in-Some.ensures in
-    let pools = listed c.self.inside.pools in
-    subst (λ (p : PoolList). IsChecked g.row.FLLEN g.row.SLLEN heap c.self.inside.marks p)
+    subst (λ (p : PoolList). IsChecked g.row.FLLEN g.row.SLLEN c.insert_free_block_ptr.new.self c.self.inside.marks p)
     (sym (
     c.add.ensures
     ∙ ap (λ p. with_pool p (range_at c.args.range.start c.get-len.result)) c.reserve.ensures.same
-    ∙ ap (λ n. with_pool pools (range_at c.args.range.start n)) c.get-len.ensures.value
+    ∙ ap (λ n. with_pool (listed c.self.inside.pools) (range_at c.args.range.start n)) c.get-len.ensures.value
     ))
-    (handed_in c.self.invariant heap stands did.frame.place did.frame.aligns c.args.range is.behind is.lies _ step)
+    (handed_in c.self.invariant c.insert_free_block_ptr.new.self stands c.in-Some.ensures.frame.place c.in-Some.ensures.frame.aligns c.args.range is.behind is.lies _ step)
 
 pub returns-then-not-lies_in : goal.returns-then-not-lies_in
 returns-then-not-lies_in g c =
@@ -78,20 +75,10 @@ returns-then-not-lies_in g c =
     rw (← c.self.view_is) (record {
       step = tt;
       result = tt;
-      room = record {
-        pool = λ count size align len told at32 long idle. tt;
-        budget = λ count bytes size align len told at32 long. tt;
-        budgets = λ count bytes size align sized. sized;
-        blocks = refl;
-      };
-      bounds = λ count size align sized. sized;
-      refused = record {
-        answer = inl (sym (outside_answer g.row.FLLEN (checked c.self.inside.heap (listed c.self.inside.pools)) c.args.range outside));
-        same = refl;
-        pools = refl;
-        bytes = refl;
-      };
-      frame = frame_unchanged c.self.inside.heap;
+      room = assumption;
+      bounds = assumption;
+      refused = refusing (inl (sym (outside_answer g.row.FLLEN (checked c.self.inside.heap (listed c.self.inside.pools)) c.args.range outside)));
+      frame = frame_unchanged _;
       touches = omega arith;
     })
 
@@ -102,20 +89,10 @@ returns-then-range-self g c =
     rw (← c.self.view_is) (record {
       step = tt;
       result = tt;
-      room = record {
-        pool = λ count size align len told at32 long idle. tt;
-        budget = λ count bytes size align len told at32 long. tt;
-        budgets = λ count bytes size align sized. sized;
-        blocks = refl;
-      };
-      bounds = λ count size align sized. sized;
-      refused = record {
-        answer = inl (sym (before_answer g.row.FLLEN (checked c.self.inside.heap (listed c.self.inside.pools)) c.args.range within c.if-range-self.true));
-        same = refl;
-        pools = refl;
-        bytes = refl;
-      };
-      frame = frame_unchanged c.self.inside.heap;
+      room = assumption;
+      bounds = assumption;
+      refused = refusing (inl (sym (before_answer g.row.FLLEN (checked c.self.inside.heap (listed c.self.inside.pools)) c.args.range within c.if-range-self.true)));
+      frame = frame_unchanged _;
       touches = omega arith;
     })
 
@@ -129,13 +106,8 @@ returns-then-not-reserve g c =
     rw (← c.self.view_is) (record {
       step = tt;
       result = tt;
-      room = record {
-        pool = λ count size align len told at32 long idle. tt;
-        budget = λ count bytes size align len told at32 long. tt;
-        budgets = λ count bytes size align sized. sized;
-        blocks = refl;
-      };
-      bounds = λ count size align sized. sized;
+      room = assumption;
+      bounds = assumption;
       refused = record { answer = inr (refl, some, sym is.within, is.behind); same = refl; pools = c.reserve.ensures.same; bytes = refl };
       frame = frame_unchanged c.self.inside.heap;
       touches = omega arith;
@@ -149,18 +121,10 @@ returns-in_default g c =
     rw (← c.self.view_is) (record {
       step = tt;
       result = tt;
-      room = record {
-        pool = λ count size align len told at32 long idle. tt;
-        budget = λ count bytes size align len told at32 long. tt;
-        budgets = did.result.budgets;
-        blocks = did.result.blocks;
-      };
+      room = assumption did.result;
       bounds = did.bounds;
       refused = record {
-        answer =
-            inl (
-            sym (behind_answer g.row.FLLEN (checked c.self.inside.heap (listed c.self.inside.pools)) c.args.range is.within is.behind ∙ ap if_taken (sym step.answer))
-            );
+        answer = inl (sym (behind_answer g.row.FLLEN (checked c.self.inside.heap (listed c.self.inside.pools)) c.args.range is.within is.behind ∙ ap if_taken (sym step.answer)));
         same = none_taken g.row.FLLEN c.self.inside.heap.state c.insert_free_block_ptr.new.self.state c.args.range step;
         pools = c.reserve.ensures.same;
         bytes = did.refused;
@@ -174,25 +138,16 @@ returns g c =
     let is = is_behind g (goal.at.returns g c).Else-range-self in
     let (stands, step) = inserted g (goal.at.returns g c).In-Some in
     let did = c.in-Some.ensures in
-    let heap = c.self.inside.heap in
+    let answer = behind_answer g.row.FLLEN (checked c.self.inside.heap (listed c.self.inside.pools)) c.args.range is.within is.behind in
     rw (← c.self.view_is) (record {
       step =
-          subst (λ n. Steps g.row.FLLEN g.row.SLLEN heap c.insert_free_block_ptr.new.self (Inserts g.row.FLLEN heap.state c.args.range (Some n)))
+          subst (λ n. Steps g.row.FLLEN g.row.SLLEN c.self.inside.heap c.insert_free_block_ptr.new.self (Inserts g.row.FLLEN c.self.inside.heap.state c.args.range (Some n)))
           (sym c.get-len.ensures.value)
           did.step;
       result = c.add.ensures ∙ ap (λ p. with_pool p (range_at c.args.range.start c.get-len.result)) c.reserve.ensures.same;
-      room = record { pool = did.result.pool; budget = did.result.budget; budgets = did.result.budgets; blocks = did.result.blocks };
+      room = assumption did.result;
       bounds = did.bounds;
-      refused = record {
-        answer =
-            inl (
-            ap Ok c.get-len.ensures.value
-            ∙ sym (behind_answer g.row.FLLEN (checked heap (listed c.self.inside.pools)) c.args.range is.within is.behind ∙ ap if_taken (sym step.answer))
-            );
-        same = tt;
-        pools = tt;
-        bytes = tt;
-      };
+      refused = record { answer = inl (ap Ok c.get-len.ensures.value ∙ sym (answer ∙ ap if_taken (sym step.answer))); same = tt; pools = tt; bytes = tt };
       frame = did.frame;
       touches = did.touches;
     })

@@ -13,14 +13,12 @@ use Rattle.rlsf_checked.proofs.checked.CheckedTlsf.new.Goals as goal
 
 pub invariant_of-result : goal.invariant_of-result
 invariant_of-result g c =
-    let heap = c.new.result in
-    let marks = c.in-Some.marks in
     let covers =
-    subst (λ (x : Space). (a : ℕ) → a % 16 ≡ 0 → x.start ≤ a → a ≤ end_of (range_of x) → HasPlace marks a) (sym c.new.ensures.memory)
+    subst (λ (x : Space). (a : ℕ) → a % 16 ≡ 0 → x.start ≤ a → a ≤ end_of (range_of x) → HasPlace c.in-Some.marks a) (sym c.new.ensures.memory)
     c.in-Some.ensures.covers in
-    subst (λ (pools : PoolList). IsChecked g.row.FLLEN g.row.SLLEN heap marks pools)
+    subst (λ (pools : PoolList). IsChecked g.row.FLLEN g.row.SLLEN c.new.result c.in-Some.marks pools)
     (ap (λ (x : Space). no_pools x.start) c.new.ensures.memory ∙ ap no_pools (sym c.start.ensures.value) ∙ sym c.new-pools.ensures)
-    (made heap marks c.new.ensures.stands c.new.ensures.state c.in-Some.ensures.none covers)
+    (made c.new.result c.in-Some.marks c.new.ensures.stands c.new.ensures.state c.in-Some.ensures.none covers)
 
 pub returns : goal.returns
 returns g c = record {

@@ -1,21 +1,18 @@
-use Rattle.std.proofs.Common.{arith, ◌≡◌, ℕ, IfSome, ◌≤◌, ◌<◌, ◌+◌, length, suc, Some, None, Ok, Err, refl, sym, ◌∙◌, ap, subst}
-use Rattle.std.proofs.lemmas.Option.{none-some}
+use Rattle.std.proofs.Common.{arith, ◌≡◌, ℕ, ◌≤◌, ◌<◌, ◌+◌, length, suc, Some, None, Ok, Err, refl, sym, ◌∙◌, ap, subst}
 use Rattle.std.specs.declared.num.NonZeroUsize.{NonZeroUsize}
 use Rattle.rlsf_base.specs.Addr.{at}
 use Rattle.rlsf_base.specs.PowerOfTwo.{floor_log2}
 use Rattle.rlsf_base.specs.Sizes.{request_size}
 use Rattle.rlsf_model.specs.Callers.{align_at, bytes_at}
 use Rattle.rlsf_model.specs.Reallocate.{Reallocates}
-use Rattle.rlsf_model.specs.Sized.{IsSizedFor, live_bytes}
+use Rattle.rlsf_model.specs.Sized.{live_bytes}
 use Rattle.rlsf_tlsf.specs.Allocator.{Steps}
-use Rattle.rlsf_checked.specs.Answers.{IsRefusedBy, size_refusal}
-use Rattle.rlsf_checked.specs.declared.error.CheckedError.TheVariants.{NoLayout, NoRoom, UnknownAddress}
+use Rattle.rlsf_checked.specs.declared.error.CheckedError.TheVariants.{NoRoom}
 use Rattle.rlsf_checked.specs.Checked.{checked}
 use Rattle.rlsf_checked.specs.Results.{KeepsCheckedFrameMoving}
-use Rattle.rlsf_codes.specs.Codes.{HasPlace, code_at}
 use Rattle.rlsf_checked.specs.Steps.Lists.{listed}
-use Rattle.rlsf_checked.proofs.SizeRefusals.{past_is_refused, unknown_is_refused}
-use Rattle.rlsf_checked.proofs.FieldsOverSteps.{has_mark, left_behind, marked_moved, size_fits, stands_after, step_of, unchanged}
+use Rattle.rlsf_checked.proofs.SizeRefusals.{below, bounds_kept, never, no_room_again, not_refused, past_is_refused, refuses, unknown_is_refused}
+use Rattle.rlsf_checked.proofs.FieldsOverSteps.{has_mark, left_behind, marked_moved, stands_after, step_of, unchanged}
 use Rattle.rlsf_checked.proofs.Unchanged.{frame_moving_unchanged}
 use Rattle.rlsf_checked.proofs.checked.CheckedTlsf.reallocate.Given as given
 use Rattle.rlsf_checked.proofs.checked.CheckedTlsf.reallocate.Goals as goal
@@ -24,21 +21,10 @@ use Rattle.rlsf_checked.proofs.checked.CheckedTlsf.reallocate.Goals.{After-reall
 same_align : {m n : ℕ} → Some m ≡ Some n → m ≡ n
 same_align e = cc
 
--- what the pools are sized for is kept
-bounds_kept : (g : given.Over) (c : After-reallocate g) (count most_size align : ℕ) → IsSizedFor g.row.SLLEN count most_size align c.self.inside.heap.state
-    → c.args.size ≤ most_size → IfSome (align_at c.self.inside.heap.state (at c.args.addr)) (λ a. a ≤ align)
-    → IsSizedFor g.row.SLLEN count most_size align c.reallocate.new.self.state
-bounds_kept g c count most_size align sized short fits =
-    let live : align_at c.self.inside.heap.state (at c.args.addr) ≡ Some c.in-Some.align = sym (rw (← c.self.view_is) at c.in-Some.ensures.value) in
-    let low : c.in-Some.align ≤ align = subst (λ o. IfSome o (λ a. a ≤ align)) live fits in
-    c.reallocate.ensures.bounds count most_size align sized (omega (arith, short, c.in-Ok.ensures.layout.0)) (omega (arith, low, c.in-Ok.ensures.layout.1))
-
--- and so is what every call keeps
+-- what every call keeps is kept
 frame_moving : (g : given.Over) (c : After-reallocate g)
     → KeepsCheckedFrameMoving (at c.args.addr) (checked c.self.inside.heap (listed c.self.inside.pools)) (checked c.reallocate.new.self (listed c.self.inside.pools))
-frame_moving g c =
-    let is = c.reallocate.ensures.frame in
-    record { count = is.count; chunks = is.chunks; pools = refl; place = is.place; grow = is.grow; copied = is.copied; grow_copied = is.grow_copied }
+frame_moving g c = assumption c.reallocate.ensures.frame
 
 pub invariant_of-self : goal.invariant_of-self
 invariant_of-self g c =
@@ -48,17 +34,13 @@ invariant_of-self g c =
 pub set-requires : goal.set-requires
 set-requires g c =
     let live : align_at c.self.inside.heap.state (at c.args.addr) ≡ Some c.in-Some.align = sym (rw (← c.self.view_is) at c.in-Some.ensures.value) in
-    let there = subst (HasPlace c.self.inside.marks) (sym c.get-left.ensures.value)
-    (has_mark c.self.invariant c.self.inside.heap c.self.invariant.stands (refl, refl, refl, λ none. none) (at c.args.addr) c.in-Some.align live) in
-    there
+    has_mark c.self.invariant c.self.inside.heap c.self.invariant.stands (refl, refl, refl, λ none. none) c.get-left.result _ c.in-Some.align c.get-left.ensures.value live
 
 pub set-requires-2 : goal.set-requires-2
 set-requires-2 g c =
     let did = c.in-Some-reallocate.ensures in
-    let there = c.set.ensures.places c.get.result
-    (subst (HasPlace c.self.inside.marks) (sym c.get.ensures.value)
-    (has_mark c.self.invariant c.reallocate.new.self (stands_after _ _ _ _ _ did.step) did.frame.place (at c.in-Some-reallocate.moved) c.in-Ok.layout.align did.result.live)) in
-    there
+    c.set.ensures.places c.get.result
+    (has_mark c.self.invariant c.reallocate.new.self (stands_after _ _ _ _ _ did.step) did.frame.place c.get.result _ c.in-Ok.layout.align c.get.ensures.value did.result.live)
 
 pub invariant_of-self-2 : goal.invariant_of-self-2
 invariant_of-self-2 g c =
@@ -66,38 +48,24 @@ invariant_of-self-2 g c =
     let heap = c.reallocate.new.self in
     let addr = at c.args.addr in
     let to = at c.in-Some-reallocate.moved in
-    let layout = c.in-Ok.layout in
     let live : align_at c.self.inside.heap.state addr ≡ Some c.in-Some.align = sym (rw (← c.self.view_is) at c.in-Some.ensures.value) in
-    let step : Reallocates g.row.SLLEN c.self.inside.heap.state addr layout.size (Some to) heap.state = step_of _ _ _ _ _ did.step in
-    let cleared : code_at c.set.new.self addr ≡ 0 = subst (λ a. code_at c.set.new.self a ≡ 0) c.get-left.ensures.value c.set.ensures.here in
-    let set : code_at c.set-2.new.self to ≡ suc (floor_log2 layout.align) =
-    subst (λ a. code_at c.set-2.new.self a ≡ suc (floor_log2 layout.align)) c.get.ensures.value
-    (c.set-2.ensures.here ∙ c.mark_of-mark.ensures ∙ ap (λ n. suc (floor_log2 n)) (sym c.in-Ok.ensures.layout.1)) in
-    marked_moved c.self.invariant heap c.set.new.self c.set-2.new.self addr to layout.align (stands_after _ _ _ _ _ did.step) did.frame.place did.frame.chunks
-    (λ a has. c.set-2.ensures.places a (c.set.ensures.places a has))
-    (λ a apart. c.set.ensures.others a (λ same. apart (same ∙ c.get-left.ensures.value))) cleared
-    (λ a apart. c.set-2.ensures.others a (λ same. apart (same ∙ c.get.ensures.value))) set did.result.live
-    (left_behind g.row.FLLEN g.row.SLLEN c.self.inside.heap c.self.invariant.stands heap.state addr c.in-Some.align layout.size to live step) did.result.aligns
+    marked_moved c.self.invariant heap c.set.new.self c.set-2.new.self c.get-left.result addr c.get.result to c.in-Ok.layout.align c.get-left.ensures.value c.get.ensures.value
+    (stands_after _ _ _ _ _ did.step) did.frame.place did.frame.chunks
+    (λ a has. c.set-2.ensures.places a (c.set.ensures.places a has)) c.set.ensures.others c.set.ensures.here c.set-2.ensures.others
+    (c.set-2.ensures.here ∙ c.mark_of-mark.ensures ∙ ap (λ n. suc (floor_log2 n)) (sym c.in-Ok.ensures.layout.1)) did.result.live
+    (left_behind g.row.FLLEN g.row.SLLEN c.self.inside.heap c.self.invariant.stands heap.state addr c.in-Some.align c.in-Ok.layout.size to live (step_of _ _ _ _ _ did.step))
+    did.result.aligns
 
 pub returns-in_default : goal.returns-in_default
 returns-in_default g c =
     let refused = unknown_is_refused c.args.size _ (rw (← c.self.view_is) at c.in_default.ensures.value) in
     rw (← c.self.view_is) (record {
-      step = λ fits. absurd (none-some _ (sym fits ∙ refused));
+      step = never refused;
       result = tt;
-      room = record {
-        bounds = λ count most_size align sized few short fits fine. absurd (none-some _ (sym fine ∙ refused));
-        budget = λ count bytes most_size align sized few little short fits fine. absurd (none-some _ (sym fine ∙ refused));
-        bytes = λ align live. tt;
-      };
-      bounds = λ count most_size align sized short fits. sized;
-      refused = record {
-        answer = subst (λ o. IsRefusedBy {A = NonZeroUsize} o (Err UnknownAddress)) (sym refused) refl;
-        same = refl;
-        pools = refl;
-        bytes = refl;
-      };
-      frame = frame_moving_unchanged (at c.args.addr) (checked c.self.inside.heap (listed c.self.inside.pools));
+      room = no_room_again refused;
+      bounds = assumption;
+      refused = refuses refused;
+      frame = frame_moving_unchanged _ _;
       touches = omega arith;
     })
 
@@ -106,21 +74,12 @@ returns-in_default-from_size_align g c =
     let live = rw (← c.self.view_is) at c.in-Some.ensures.value in
     let refused = past_is_refused c.args.size c.in-Some.align _ live c.in-Some.ensures.power c.in_default-from_size_align.ensures.succeeds.1 in
     rw (← c.self.view_is) (record {
-      step = λ fits. absurd (none-some _ (sym fits ∙ refused));
+      step = never refused;
       result = tt;
-      room = record {
-        bounds = λ count most_size align sized few short fits fine. absurd (none-some _ (sym fine ∙ refused));
-        budget = λ count bytes most_size align sized few little short fits fine. absurd (none-some _ (sym fine ∙ refused));
-        bytes = λ align live. tt;
-      };
-      bounds = λ count most_size align sized short fits. sized;
-      refused = record {
-        answer = subst (λ o. IsRefusedBy {A = NonZeroUsize} o (Err NoLayout)) (sym refused) refl;
-        same = refl;
-        pools = refl;
-        bytes = refl;
-      };
-      frame = frame_moving_unchanged (at c.args.addr) (checked c.self.inside.heap (listed c.self.inside.pools));
+      room = no_room_again refused;
+      bounds = assumption;
+      refused = refuses refused;
+      frame = frame_moving_unchanged _ _;
       touches = omega arith;
     })
 
@@ -129,29 +88,19 @@ returns-in_default-reallocate g c =
     let (size, align) = c.in-Ok.ensures.layout in
     let live = rw (← c.self.view_is) at c.in-Some.ensures.value in
     let did = c.in_default-reallocate.ensures in
+    let low = below c.self.inside.heap.state (at c.args.addr) c.in-Ok.layout size align live in
     rw (← c.self.view_is) (record {
       step =
           λ fits. subst (λ n. Steps g.row.FLLEN g.row.SLLEN c.self.inside.heap c.reallocate.new.self (Reallocates g.row.SLLEN c.self.inside.heap.state (at c.args.addr) n None))
           size did.step;
       result = tt;
       room = record {
-        bounds = λ count most_size most sized few short fits fine.
-            let low : c.in-Some.align ≤ most = subst (λ o. IfSome o (λ a. a ≤ most)) (sym live) fits in
-            did.room.bounds count most_size most sized few (omega (arith, short, size)) (omega (arith, low, align));
-        budget = λ count bytes most_size most sized few little short fits fine.
-            let low : c.in-Some.align ≤ most = subst (λ o. IfSome o (λ a. a ≤ most)) (sym live) fits in
-            did.room.budget count bytes most_size most sized few little (omega (arith, short, size)) (omega (arith, low, align));
+        bounds = λ count n most sized few short fits fine. did.room.bounds count n most sized few (omega (arith, short, size)) (low most fits);
+        budget = λ count bytes n most sized few little short fits fine. did.room.budget count bytes n most sized few little (omega (arith, short, size)) (low most fits);
         bytes = λ align live. tt;
       };
-      bounds = bounds_kept g (goal.at.returns-in_default-reallocate g c).After-reallocate;
-      refused = record {
-        answer =
-            subst (λ o. IsRefusedBy {A = NonZeroUsize} (size_refusal o c.args.size) (Err NoRoom)) live
-            (subst (λ o. IsRefusedBy {A = NonZeroUsize} o (Err NoRoom)) (sym (size_fits c.in-Ok.layout c.args.size c.in-Some.align size align)) refl);
-        same = did.refused.same;
-        pools = refl;
-        bytes = did.refused.bytes;
-      };
+      bounds = bounds_kept c.self.inside.heap.state (at c.args.addr) c.in-Ok.layout size align live g.row.SLLEN c.reallocate.new.self.state did.bounds;
+      refused = assumption (not_refused c.self.inside.heap.state (at c.args.addr) c.in-Ok.layout size align live {A = NonZeroUsize} (Err NoRoom) refl, did.refused);
       frame = frame_moving g (goal.at.returns-in_default-reallocate g c).After-reallocate;
       touches = did.touches;
     })
@@ -187,15 +136,8 @@ returns g c =
             subst (λ (n : ℕ × ℕ). live_bytes new.state + request_size (length (bytes_at heap.state addr)) 16 ≤ live_bytes heap.state + request_size n.0 n.1)
             (λ i. (size i, sym same i)) (did.room.bytes refl);
       };
-      bounds = bounds_kept g (goal.at.returns g c).After-reallocate;
-      refused = record {
-        answer =
-            subst (λ o. IsRefusedBy (size_refusal o c.args.size) (Ok c.in-Some-reallocate.moved)) live
-            (subst (λ o. IsRefusedBy o (Ok c.in-Some-reallocate.moved)) (sym (size_fits c.in-Ok.layout c.args.size c.in-Some.align size align)) tt);
-        same = tt;
-        pools = tt;
-        bytes = tt;
-      };
+      bounds = bounds_kept c.self.inside.heap.state (at c.args.addr) c.in-Ok.layout size align live g.row.SLLEN c.reallocate.new.self.state did.bounds;
+      refused = assumption (not_refused c.self.inside.heap.state (at c.args.addr) c.in-Ok.layout size align live (Ok c.in-Some-reallocate.moved) (tt {0}));
       frame = frame_moving g (goal.at.returns g c).After-reallocate;
       touches = did.touches;
     })

@@ -70,11 +70,10 @@ returns g c =
     let row = (is_pool g (goal.at.returns g c).Else-not-contains).row in
     let idle = idle_if w (walked c.args.range) row c.iter_blocks.result c.iter_blocks.ensures.blocks (sym c.any_used.ensures ∙ c.if-any_used.false) in
     let is : IsIn c.args.range (current_pools (listed c.self.inside.pools)) = c.contains.ensures.0 c.if-not-contains.false in
-    let did = c.remove_pool.ensures in
     rw (← c.self.view_is) (record {
-      step = did.step;
+      step = c.remove_pool.ensures.step;
       result = c.remove.ensures;
       refused = record { answer = (is, idle); same = tt };
-      frame = did.frame;
-      touches = did.touches;
+      frame = c.remove_pool.ensures.frame;
+      touches = c.remove_pool.ensures.touches;
     })

@@ -12,14 +12,13 @@ use Rattle.rlsf_checked.proofs.checked.CheckedTlsf.reset.Goals as goal
 pub invariant_of-result : goal.invariant_of-result
 invariant_of-result g c =
     let heap = c.new.result in
-    let marks = c.clear-2.new.self in
     let old = c.self.inside.heap in
     let memory : heap.memory ≡ old.memory = c.new.ensures.memory ∙ c.into_memory-memory.ensures in
-    let covers = subst (λ (x : Space). (a : ℕ) → a % 16 ≡ 0 → x.start ≤ a → a ≤ end_of (range_of x) → HasPlace marks a) (sym memory)
+    let covers = subst (λ (x : Space). (a : ℕ) → a % 16 ≡ 0 → x.start ≤ a → a ≤ end_of (range_of x) → HasPlace c.clear-2.new.self a) (sym memory)
     (λ a even low high. c.clear-2.ensures.places a (c.self.invariant.covers a even low high)) in
-    subst (λ (pools : PoolList). IsChecked g.row.FLLEN g.row.SLLEN heap marks pools)
+    subst (λ (pools : PoolList). IsChecked g.row.FLLEN g.row.SLLEN heap c.clear-2.new.self pools)
     (ap (λ (x : Space). no_pools x.start) c.new.ensures.memory ∙ ap no_pools (sym c.start.ensures.value) ∙ sym c.clear.ensures)
-    (made heap marks c.new.ensures.stands c.new.ensures.state (λ a. c.clear-2.ensures.none a ∙ no_mark c.self.invariant) covers)
+    (made heap c.clear-2.new.self c.new.ensures.stands c.new.ensures.state (λ a. c.clear-2.ensures.none a ∙ no_mark c.self.invariant) covers)
 
 pub returns : goal.returns
 returns g c = rw (← c.self.view_is) (record {

@@ -18,15 +18,14 @@ joined-sum-requires-clause-fits g c =
     let (bs, have, sums, few) = rw (← c.self.view_is) at c.loop-pool.invariant in
     let blocks = c.iter_blocks.ensures.blocks in
     let more = one_more_pool w c.self.invariant.pools _ c.deref-pool-items.ensures.value c.loop-pool.pool-index _ c.loop-pool-test.true (search rules) have _ blocks in
-    let t = c.totals_of.ensures.totals in
     omega (
       arith,
       fits w (bs ++ c.iter_blocks.result) more.in_order (λ b i. ((more.exactly b).0 i).0),
       total-append bs c.iter_blocks.result,
       sums.used,
       sums.free,
-      t.used,
-      t.free,
+      c.totals_of.ensures.totals.used,
+      c.totals_of.ensures.totals.free,
     )
 
 pub joined-requires-clause-fits : goal.joined-requires-clause-fits
@@ -35,15 +34,14 @@ joined-requires-clause-fits g c =
     let (bs, have, sums, few) = rw (← c.self.view_is) at c.loop-pool.invariant in
     let all = all_earlier w c.self.invariant.pools c.loop-pool.pool-index (omega (arith, c.loop-pool-test.false, ap length c.deref-pool-items.ensures.value)) have in
     let both = all_of_them w c.self.invariant.pools all (rw (← c.self.view_is) at c.blocks-2.ensures.blocks) in
-    let t = c.totals_of-2.ensures.totals in
     omega (
       arith,
       fits w (bs ++ c.blocks-2.result) both.in_order (λ b i. ((both.exactly b).0 i).0),
       total-append bs c.blocks-2.result,
       sums.used,
       sums.free,
-      t.used,
-      t.free,
+      c.totals_of-2.ensures.totals.used,
+      c.totals_of-2.ensures.totals.free,
     )
 
 pub loop-pool-preserved : goal.loop-pool-preserved

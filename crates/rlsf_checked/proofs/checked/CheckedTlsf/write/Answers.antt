@@ -1,4 +1,4 @@
-use Rattle.std.proofs.Common.{refl, ◌≡◌, ◌+◌, ◌≤◌, ℕ, List, cond, nat_le, Ok, Err, sym, subst, length, arith, ◌∙◌, ap}
+use Rattle.std.proofs.Common.{◌≡◌, ◌+◌, ◌≤◌, ℕ, List, nat_le, sym, subst, length, arith, ◌∙◌, ap}
 use Rattle.std.proofs.lemmas.Bool.{leb-true}
 use Rattle.std.specs.List.{splice}
 use Rattle.rlsf_base.specs.Addr.{at}
@@ -7,11 +7,9 @@ use Rattle.rlsf_model.specs.Run.{Fills}
 use Rattle.rlsf_tlsf.specs.Allocator.{Steps}
 use Rattle.rlsf_tlsf.specs.Lending.{written}
 use Rattle.rlsf_checked.specs.Answers.{fits, if_in_range}
-use Rattle.rlsf_checked.specs.declared.error.CheckedError.TheVariants.{OutOfRange}
-use Rattle.rlsf_checked.specs.Checked.{checked}
-use Rattle.rlsf_checked.specs.Steps.Lists.{listed}
 use Rattle.rlsf_checked.proofs.FieldsOverSteps.{unchanged}
-use Rattle.rlsf_checked.proofs.Unchanged.{frame_in_place_unchanged}
+use Rattle.rlsf_checked.proofs.InRange.{at_live}
+use Rattle.rlsf_checked.proofs.Unchanged.{frame_unchanged}
 use Rattle.rlsf_checked.proofs.checked.CheckedTlsf.write.Given as given
 use Rattle.rlsf_checked.proofs.checked.CheckedTlsf.write.Goals as goal
 use Rattle.rlsf_checked.proofs.checked.CheckedTlsf.write.Goals.{After-reaches, After-write_at}
@@ -39,45 +37,27 @@ write_at-requires g c =
 pub returns-in_default : goal.returns-in_default
 returns-in_default g c =
     let none = rw (← c.self.view_is) at c.in_default.ensures.value in
-    rw (← c.self.view_is) (record {
-      step = tt;
-      result = tt;
-      bounds = λ count size align sized. sized;
-      blocks = refl;
-      refused = record { answer = ap (λ o. if_in_range o (fits c.args.offset (length c.args.bytes.now) (bytes_at c.self.inside.heap.state (at c.args.addr)))) none; same = refl };
-      frame = frame_in_place_unchanged (at c.args.addr) (checked c.self.inside.heap (listed c.self.inside.pools));
-      touches = omega arith;
-    })
+    let answer = ap (λ o. if_in_range o (fits c.args.offset (length c.args.bytes.now) (bytes_at c.self.inside.heap.state (at c.args.addr)))) none in
+    let few : c.self.inside.heap.memory.touches ≤ c.self.inside.heap.memory.touches + 3 = omega arith in
+    rw (← c.self.view_is) (assumption (answer, frame_unchanged c.self.inside.heap, few))
 
 pub returns-then-not-reaches : goal.returns-then-not-reaches
 returns-then-not-reaches g c =
     let live = rw (← c.self.view_is) at c.in-Some.ensures.value in
     let told = sym c.if-not-reaches.true ∙ reach g (goal.at.returns-then-not-reaches g c).After-reaches in
-    rw (← c.self.view_is) (record {
-      step = tt;
-      result = tt;
-      bounds = λ count size align sized. sized;
-      blocks = refl;
-      refused = record {
-        answer =
-            subst (λ o. Err OutOfRange ≡ if_in_range o (fits c.args.offset (length c.args.bytes.now) (bytes_at c.self.inside.heap.state (at c.args.addr)))) live
-            (ap (λ b. cond b (Ok tt) (Err OutOfRange)) told);
-        same = refl;
-      };
-      frame = frame_in_place_unchanged (at c.args.addr) (checked c.self.inside.heap (listed c.self.inside.pools));
-      touches = omega arith;
-    })
+    let few : c.self.inside.heap.memory.touches ≤ c.self.inside.heap.memory.touches + 3 = omega arith in
+    rw (← c.self.view_is) (assumption (at_live live told, frame_unchanged c.self.inside.heap, few))
 
 pub returns : goal.returns
 returns g c =
     let live = rw (← c.self.view_is) at c.in-Some.ensures.value in
-    let told = sym c.if-not-reaches.false ∙ reach g (goal.at.returns g c).After-reaches in
     let did = c.payload_mut.ensures in
     let heap = c.self.inside.heap in
     let addr = at c.args.addr in
     let w = c.write_at.new.payload in
     let (chunks, place, stands, touches, copied) = did.rest w in
     let is = over g (goal.at.returns g c).After-write_at in
+    let grow : heap.memory.touches ≤ (written heap addr (length c.payload_mut.result.now) w).memory.touches = omega (arith, touches) in
     rw (← c.self.view_is) (record {
       step =
           subst (λ b. Steps g.row.FLLEN g.row.SLLEN heap (written heap addr (length c.payload_mut.result.now) w) (Fills heap.state addr b)) is
@@ -85,21 +65,7 @@ returns g c =
       result = did.filled w c.write_at.ensures.len ∙ is;
       bounds = did.bounds w;
       blocks = did.blocks w;
-      refused = record {
-        answer =
-            subst (λ o. Ok tt ≡ if_in_range o (fits c.args.offset (length c.args.bytes.now) (bytes_at heap.state addr))) live
-            (ap (λ b. cond b (Ok tt) (Err OutOfRange)) told);
-        same = tt;
-      };
-      frame = record {
-        aligns = did.aligns w;
-        bytes = did.bytes w;
-        count = did.count w;
-        chunks = chunks;
-        pools = refl;
-        place = place;
-        grow = omega (arith, touches);
-        copied = copied;
-      };
+      refused = assumption (at_live live (sym c.if-not-reaches.false ∙ reach g (goal.at.returns g c).After-reaches));
+      frame = assumption (did.aligns w, did.bytes w, did.count w, did.rest w, grow);
       touches = omega (arith, touches);
     })

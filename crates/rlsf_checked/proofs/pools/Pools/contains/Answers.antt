@@ -11,8 +11,7 @@ loop-pool-init c = λ p i same. absurd i
 
 pub returns-then-is_same : goal.returns-then-is_same
 returns-then-is_same c =
-    let items = c.deref-pool-items.result.now in
-    let held = at_index items c.loop-pool.pool-index c.args.range _ c.loop-pool-test.true (search rules) (c.is_same.ensures.0 c.if-is_same.true) in
+    let held = at_index c.deref-pool-items.result.now c.loop-pool.pool-index c.args.range _ c.loop-pool-test.true (search rules) (c.is_same.ensures.0 c.if-is_same.true) in
     (λ e. is_in (listed c.args.self.now) c.args.range (inl (subst (IsIn c.args.range) c.deref-pool-items.ensures.value held)), λ i. refl)
 
 pub loop-pool-preserved : goal.loop-pool-preserved
@@ -23,8 +22,7 @@ loop-pool-preserved c = λ p i same. elim (before_more c.deref-pool-items.result
 
 pub returns : goal.returns
 returns c =
-    let items = c.deref-pool-items.result.now in
-    let all = take_all c.loop-pool.pool-index items (omega (arith, c.loop-pool-test.false)) in (
+    let all = take_all c.loop-pool.pool-index c.deref-pool-items.result.now (omega (arith, c.loop-pool-test.false)) in (
       λ e. is_in (listed c.args.self.now) c.args.range (inr (c.is_last.ensures.0 e)),
       λ i. elim (one_of (listed c.args.self.now) c.args.range i) [
         | inl j ↦ absurd (c.loop-pool.invariant c.args.range

@@ -21,9 +21,8 @@ returns-then-not-is_live g c =
 
 pub set-requires : goal.set-requires
 set-requires g c =
-    let unit = g.row.UNIT in
-    let live = subst (λ (v : Offsets). IsSome (len_at unit v c.args.offset)) (sym c.self.view_is) (sym c.if-not-is_live.ensures) in
-    live_inside c.self.invariant c.args.offset (IsPowerOfTwo-positive unit c.self.invariant.power) live
+    let live = subst (λ (v : Offsets). IsSome (len_at g.row.UNIT v c.args.offset)) (sym c.self.view_is) (sym c.if-not-is_live.ensures) in
+    live_inside c.self.invariant c.args.offset (IsPowerOfTwo-positive g.row.UNIT c.self.invariant.power) live
 
 pub invariant_of-self : goal.invariant_of-self
 invariant_of-self g c =

@@ -30,8 +30,7 @@ returns-then-not-grow g c =
 
 pub invariant_of-self-2 : goal.invariant_of-self-2
 invariant_of-self-2 g c =
-    let e = c.if-not-grow.ensures in
-    IsChecked-grown c.self.invariant c.grow.new.self c.args.len (e.which.0 refl).1 (e.grown refl)
+    IsChecked-grown c.self.invariant c.grow.new.self c.args.len (c.if-not-grow.ensures.which.0 refl).1 (c.if-not-grow.ensures.grown refl)
 
 pub returns : goal.returns
 returns g c =

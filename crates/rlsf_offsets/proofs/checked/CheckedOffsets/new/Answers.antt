@@ -47,15 +47,13 @@ invariant_of-result g c =
     let unit = g.row.UNIT in
     let v = c.in-Ok.inner in
     let power = c.if-not-is_power.ensures.0 refl in
-    let units = c.in-Ok.ensures.units in
-    let most = c.greater.ensures in
     let marks = c.in-Some.ensures in
-    let same : limit_of v ≡ length c.in-Some.marks.marks.items = units.1 ∙ sym most.value ∙ sym marks.len in
+    let same : limit_of v ≡ length c.in-Some.marks.marks.items = c.in-Ok.ensures.units.1 ∙ sym c.greater.ensures.value ∙ sym marks.len in
     record {
       power = power;
       marked = λ o. marks.none o ∙ none_live unit (IsPowerOfTwo-positive unit power) v o (c.in-Ok.ensures.empty (o * unit));
       covers = omega (arith, same);
-      few = omega (arith, units.0, same, marks.len, most.first);
+      few = omega (arith, c.in-Ok.ensures.units.0, same, marks.len, c.greater.ensures.first);
     }
 
 pub returns : goal.returns

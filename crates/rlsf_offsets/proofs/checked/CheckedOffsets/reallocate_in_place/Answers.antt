@@ -23,16 +23,14 @@ invariant_of-self g c = IsChecked-refused c.self.invariant c.reallocate_in_place
 
 pub invariant_of-self-2 : goal.invariant_of-self-2
 invariant_of-self-2 g c =
-    let unit = g.row.UNIT in
-    let live = subst (λ (v : Offsets). IsSome (len_at unit v c.args.offset)) (sym c.self.view_is) (sym c.if-not-is_live.ensures) in
-    IsChecked-reallocated c.self.invariant c.reallocate_in_place.new.self c.args.len c.args.offset (IsPowerOfTwo-positive unit c.self.invariant.power) live
+    let live = subst (λ (v : Offsets). IsSome (len_at g.row.UNIT v c.args.offset)) (sym c.self.view_is) (sym c.if-not-is_live.ensures) in
+    IsChecked-reallocated c.self.invariant c.reallocate_in_place.new.self c.args.len c.args.offset (IsPowerOfTwo-positive g.row.UNIT c.self.invariant.power) live
     (c.if-not-reallocate_in_place.ensures.reallocated refl)
 
 pub returns-then-not-reallocate_in_place : goal.returns-then-not-reallocate_in_place
 returns-then-not-reallocate_in_place g c =
-    let unit = g.row.UNIT in
     let e = c.if-not-reallocate_in_place.ensures in
-    let live = subst (λ (v : Offsets). IsSome (len_at unit v c.args.offset)) (sym c.self.view_is) (sym c.if-not-is_live.ensures) in
+    let live = subst (λ (v : Offsets). IsSome (len_at g.row.UNIT v c.args.offset)) (sym c.self.view_is) (sym c.if-not-is_live.ensures) in
     rw (← c.self.view_is) (record {
       reallocated = tt;
       which = inr (refl, live, λ room. true≢false (sym (e.room.1 room)));
@@ -43,7 +41,6 @@ returns-then-not-reallocate_in_place g c =
 
 pub returns : goal.returns
 returns g c =
-    let unit = g.row.UNIT in
     let e = c.if-not-reallocate_in_place.ensures in
-    let live = subst (λ (v : Offsets). IsSome (len_at unit v c.args.offset)) (sym c.self.view_is) (sym c.if-not-is_live.ensures) in
+    let live = subst (λ (v : Offsets). IsSome (len_at g.row.UNIT v c.args.offset)) (sym c.self.view_is) (sym c.if-not-is_live.ensures) in
     rw (← c.self.view_is) (record { reallocated = e.reallocated refl; which = (live, e.room.0 refl); sized = e.sized; same = tt; touches = e.touches })

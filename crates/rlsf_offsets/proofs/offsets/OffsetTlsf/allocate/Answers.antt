@@ -22,8 +22,7 @@ allocate-requires-clause-align g c =
 
 pub overflow_mul-result : goal.overflow_mul-result
 overflow_mul-result g c =
-    let made = c.in_ok-first.ensures.reserved in
-    let fits : c.in_ok-first.first * g.row.UNIT ≤ c.self.inside.inner.units * g.row.UNIT = mul-le-mul_right g.row.UNIT (omega (arith, made.inside)) in
+    let fits : c.in_ok-first.first * g.row.UNIT ≤ c.self.inside.inner.units * g.row.UNIT = mul-le-mul_right g.row.UNIT (omega (arith, c.in_ok-first.ensures.reserved.inside)) in
     omega (arith, fits, c.self.invariant.1)
 
 pub invariant_of-self : goal.invariant_of-self
@@ -53,12 +52,10 @@ returns g c =
     let x = c.allocate.new.self in
     let first = c.in_ok-first.first in
     let e = c.in_ok-first.ensures in
-    let n = c.units_for-units.ensures.value in
-    let a = c.units_for-step.ensures.value in
     let made : IsReserved v x (units_of_bytes unit c.args.len) (units_of_bytes unit c.args.align) first
-    = subst (λ (p : ℕ × ℕ). IsReserved v x p.0 p.1 first) (λ i. (n i, a i)) e.reserved in
+    = subst (λ (p : ℕ × ℕ). IsReserved v x p.0 p.1 first) (λ i. (c.units_for-units.ensures.value i, c.units_for-step.ensures.value i)) e.reserved in
     let allocated = IsAllocated-units unit c.args.align c.self.invariant.0 c.requires v x c.args.len first made in
-    rw (← c.self.view_is, ← n, ← a) (record {
+    rw (← c.self.view_is, ← c.units_for-units.ensures.value, ← c.units_for-step.ensures.value) (record {
       allocated = allocated;
       refused = (λ h. absurd (none-some _ (sym h)), λ full. absurd (none-some _ (sym (e.refused.1 full))));
       room = λ o m run long. refl;

@@ -8,9 +8,8 @@ use Rattle.rlsf_offsets.proofs.offsets.OffsetTlsf.deallocate.Goals as goal
 pub deallocate-requires : goal.deallocate-requires
 deallocate-requires g c =
     let unit = g.row.UNIT in
-    let some = IsPowerOfTwo-positive unit c.self.invariant.0 in
     let live = subst (λ (v : Offsets). IsSome (len_at unit v c.args.offset)) (sym c.self.view_is) c.requires in
-    some_units unit some c.self.inside.inner c.args.offset live
+    some_units unit (IsPowerOfTwo-positive unit c.self.invariant.0) c.self.inside.inner c.args.offset live
 
 pub returns : goal.returns
 returns g c =
@@ -18,8 +17,4 @@ returns g c =
     let some = IsPowerOfTwo-positive unit c.self.invariant.0 in
     let live = subst (λ (v : Offsets). IsSome (len_at unit v c.args.offset)) (sym c.self.view_is) c.requires in
     let e = c.deallocate.ensures in
-    rw (← c.self.view_is) (record {
-      deallocated = IsDeallocated-units unit some c.self.inside.inner c.deallocate.new.self c.args.offset live e.released;
-      sized = e.sized;
-      touches = e.touches;
-    })
+    rw (← c.self.view_is) (assumption (IsDeallocated-units unit some c.self.inside.inner c.deallocate.new.self c.args.offset live e.released, e))

@@ -8,9 +8,8 @@ use Rattle.rlsf_offsets.proofs.offsets.OffsetTlsf.len.Goals as goal
 pub len-requires : goal.len-requires
 len-requires g c =
     let unit = g.row.UNIT in
-    let some = IsPowerOfTwo-positive unit c.self.invariant.0 in
     let live = subst (λ (v : Offsets). IsSome (len_at unit v c.args.offset)) (sym c.self.view_is) c.requires in
-    some_units unit some c.self.inside.inner c.args.offset live
+    some_units unit (IsPowerOfTwo-positive unit c.self.invariant.0) c.self.inside.inner c.args.offset live
 
 pub returns : goal.returns
 returns g c =

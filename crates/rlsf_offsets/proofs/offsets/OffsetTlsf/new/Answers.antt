@@ -7,14 +7,7 @@ use Rattle.rlsf_offsets.proofs.offsets.OffsetTlsf.new.Goals as goal
 pub returns : goal.returns
 returns g c =
     let e = c.with_limit.ensures in
-    let r = c.with_limit.result in
     let units = c.args.len / g.row.UNIT in
     let same : max units units ≡ units = omega arith in
-    record {
-      too_long = subst (λ (n : ℕ). IsErrOf r TooLong ↔ (2 ^ 56 < n)) same e.too_long;
-      refused = e.refused;
-      units = subst (λ (n : ℕ). IfOk r (λ (space : Offsets). (space.units ≡ units) × (limit_of space ≡ n))) same e.units;
-      empty = e.empty;
-      free = e.free;
-      sized = e.sized;
-    }
+    let too_long = subst (λ (n : ℕ). IsErrOf c.with_limit.result TooLong ↔ (2 ^ 56 < n)) same e.too_long in
+    assumption (too_long, subst (λ (n : ℕ). IfOk c.with_limit.result (λ (space : Offsets). (space.units ≡ units) × (limit_of space ≡ n))) same e.units, e)

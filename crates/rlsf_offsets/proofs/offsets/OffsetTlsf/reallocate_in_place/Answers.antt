@@ -11,9 +11,8 @@ units_for-units-requires g c = IsPowerOfTwo-positive g.row.UNIT c.self.invariant
 pub reallocate_in_place-requires-clause-live : goal.reallocate_in_place-requires-clause-live
 reallocate_in_place-requires-clause-live g c =
     let unit = g.row.UNIT in
-    let some = IsPowerOfTwo-positive unit c.self.invariant.0 in
     let live = subst (λ (v : Offsets). IsSome (len_at unit v c.args.offset)) (sym c.self.view_is) c.requires in
-    some_units unit some c.self.inside.inner c.args.offset live
+    some_units unit (IsPowerOfTwo-positive unit c.self.invariant.0) c.self.inside.inner c.args.offset live
 
 pub returns : goal.returns
 returns g c =
@@ -24,12 +23,11 @@ returns g c =
     let offset = c.args.offset in
     let done = c.reallocate_in_place.result in
     let e = c.reallocate_in_place.ensures in
-    let n = c.units_for-units.ensures.value in
     let some = IsPowerOfTwo-positive unit c.self.invariant.0 in
     let live = subst (λ (v : Offsets). IsSome (len_at unit v offset)) (sym c.self.view_is) c.requires in
     let made : done ≡ true → IsRangeReallocated unit v x len offset = λ is.
-    IsReallocated-units unit some v x len offset live (subst (λ (k : ℕ). IsRangeResized v x k (offset / unit)) n (e.resized is)) in
-    rw (← c.self.view_is, ← n) (record {
+    IsReallocated-units unit some v x len offset live (subst (λ (k : ℕ). IsRangeResized v x k (offset / unit)) c.units_for-units.ensures.value (e.resized is)) in
+    rw (← c.self.view_is, ← c.units_for-units.ensures.value) (record {
       reallocated = made;
       room = e.room;
       stay = still_live unit v x len offset done made e.same;

@@ -37,12 +37,9 @@ returns-then-saturating_add-self c =
 
 pub from_size_align_unchecked-layout-requires : goal.from_size_align_unchecked-layout-requires
 from_size_align_unchecked-layout-requires c =
-    let n = c.args.units in
-    let align = c.args.align in
-    let positive = IsPowerOfTwo-positive align c.requires.align in
     let few = c.self.invariant.shadow.few in
-    IsLayout-units n align c.requires.align (omega (arith, c.saturating_add.ensures, c.if-saturating_add-self.false, few, c.requires.some))
-    (omega (arith, c.saturating_add.ensures, c.if-saturating_add-self.false, few, positive))
+    IsLayout-units c.args.units c.args.align c.requires.align (omega (arith, c.saturating_add.ensures, c.if-saturating_add-self.false, few, c.requires.some))
+    (omega (arith, c.saturating_add.ensures, c.if-saturating_add-self.false, few, IsPowerOfTwo-positive c.args.align c.requires.align))
 
 pub returns-in_err-payload : goal.returns-in_err-payload
 returns-in_err-payload c =
@@ -74,19 +71,15 @@ small c = omega (arith, c.saturating_add.ensures, c.if-saturating_add-self.false
 
 kept : (c : In_ok-payload) → IsUnitAllocator c.self.inside.units c.allocate_in.new.memory c.allocate_in.new.table c.allocate_in.new.state.state
 kept c =
-    let n = c.args.units in
-    let align = c.args.align in
-    let positive = IsPowerOfTwo-positive align c.requires.align in
-    let shadow = c.self.invariant.shadow in
+    let positive = IsPowerOfTwo-positive c.args.align c.requires.align in
     let (es, ea) = c.from_size_align_unchecked-layout.ensures in
     let e = c.in_ok-payload.ensures in
-    let addr = c.in_ok-payload.payload.start in
     let b = allocator c.allocate_in.new.memory c.allocate_in.new.table c.allocate_in.new.state.state in
     let s = read_from c.self.inside.memory c.self.inside.state.state in
     let size = c.from_size_align_unchecked-layout.result.size in
     let wide = c.from_size_align_unchecked-layout.result.align in
-    IsUnitAllocator-left c.self.invariant e.left (chunks-allocated 8 s b.state size wide (Some addr) e.step)
-    (AreWhole-allocated shadow b n align size wide es ea c.requires.some positive (Some addr) e.step)
+    IsUnitAllocator-left c.self.invariant e.left (chunks-allocated 8 s b.state size wide (Some c.in_ok-payload.payload.start) e.step)
+    (AreWhole-allocated c.self.invariant.shadow b c.args.units c.args.align size wide es ea c.requires.some positive (Some c.in_ok-payload.payload.start) e.step)
 
 pub overflow_sub-result : goal.overflow_sub-result
 overflow_sub-result c =
@@ -108,8 +101,6 @@ returns c =
     let d = (goal.at.returns c).In_ok-payload in
     let n = c.args.units in
     let align = c.args.align in
-    let positive = IsPowerOfTwo-positive align c.requires.align in
-    let shadow = c.self.invariant.shadow in
     let (es, ea) = c.from_size_align_unchecked-layout.ensures in
     let b = allocator c.allocate_in.new.memory c.allocate_in.new.table c.allocate_in.new.state.state in
     let e = c.in_ok-payload.ensures in
@@ -118,9 +109,9 @@ returns c =
     let wide = c.from_size_align_unchecked-layout.result.align in
     let v = offsets c.self.inside.units (allocator c.self.inside.memory c.self.inside.table c.self.inside.state.state) in
     let x = offsets c.self.inside.units b in
-    let answered = IsFull-answered shadow b n align _ _ es ea c.requires.some positive addr e.step in
+    let answered = IsFull-answered c.self.invariant.shadow b n align _ _ es ea c.requires.some (IsPowerOfTwo-positive align c.requires.align) addr e.step in
     rw (← c.self.view_is) (record {
-      reserved = IsReserved-allocated shadow (kept d).shadow n align size wide addr es ea c.requires.some c.requires.align (small d) e.result.made
+      reserved = IsReserved-allocated c.self.invariant.shadow (kept d).shadow n align size wide addr es ea c.requires.some c.requires.align (small d) e.result.made
           e.left.costs.length;
       refused = (λ h. absurd (none-some _ (sym h)), λ full. absurd (answered full));
       room = λ o m run long. refl;

@@ -7,8 +7,7 @@ use Rattle.rlsf_offsets.proofs.units.UnitTlsf.blocks.Goals as goal
 
 pub walk_blocks-requires : goal.walk_blocks-requires
 walk_blocks-requires c =
-    let shadow = c.self.invariant.shadow in
-    (59, 8, _, _, shadow.stands, IsRow-shadow shadow c.chunk_len-len.result c.chunk_len-len.ensures.some c.chunk_len-len.ensures.none)
+    (59, 8, _, _, c.self.invariant.shadow.stands, IsRow-shadow c.self.invariant.shadow c.chunk_len-len.result c.chunk_len-len.ensures.some c.chunk_len-len.ensures.none)
 
 pub returns : goal.returns
 returns c =

@@ -3,7 +3,7 @@ use Rattle.std.specs.Prelude.{IsSome}
 use Rattle.rlsf_blocks.specs.Laws.{read_from}
 use Rattle.rlsf_model.proofs.Chunks.{chunks-deallocated}
 use Rattle.rlsf_tlsf.specs.Allocator.{allocator}
-use Rattle.rlsf_offsets.specs.Units.{Offsets, offsets, units_at}
+use Rattle.rlsf_offsets.specs.Units.{IsReleased, Offsets, offsets, units_at}
 use Rattle.rlsf_offsets.proofs.Frees.{AreWhole-deallocated, IsReleased-deallocated, sized-freed}
 use Rattle.rlsf_offsets.proofs.Kept.{IsCore-kept, IsUnitAllocator-left, own_found}
 use Rattle.rlsf_offsets.proofs.Ranges.{live_place}
@@ -32,8 +32,5 @@ returns c =
     let e = c.deallocate_in.ensures in
     let v = offsets c.self.inside.units (allocator c.self.inside.memory c.self.inside.table c.self.inside.state.state) in
     let x = offsets c.self.inside.units (allocator c.deallocate_in.new.memory c.deallocate_in.new.table c.deallocate_in.new.state.state) in
-    rw (← c.self.view_is) (record {
-      released = IsReleased-deallocated c.args.first c.place_of-addr.result c.place_of-addr.ensures e.left.costs.length e.result;
-      sized = sized-freed v x e.bounds;
-      touches = e.left.costs.touches;
-    })
+    let released : IsReleased v x c.args.first = IsReleased-deallocated c.args.first c.place_of-addr.result c.place_of-addr.ensures e.left.costs.length e.result in
+    rw (← c.self.view_is) (assumption (released, sized-freed v x e.bounds, e))

@@ -11,25 +11,23 @@ returns-then-can_have c =
     let (units, shorter) = c.can_have.ensures.0 c.if-can_have.true in
     let fits : (c.self.inside.units ≤ c.args.units) × (c.args.units ≤ length c.self.inside.memory.bytes / 32 - 1)
     = (units, omega (arith, shorter, c.len.ensures.value)) in
-    let v = offsets c.self.inside.units (allocator c.self.inside.memory c.self.inside.table c.self.inside.state.state) in
     let x = offsets c.args.units (allocator c.lengthen.new.memory c.lengthen.new.table c.lengthen.new.state.state) in
     rw (← c.self.view_is) (record {
       longer = λ done. IsLonger-frame c.self.invariant.shadow c.args.units fits.0 e.frame;
       which = (λ done. fits, λ can. refl);
-      sized = sized-freed v x e.bounds;
+      sized = sized-freed (offsets c.self.inside.units (allocator c.self.inside.memory c.self.inside.table c.self.inside.state.state)) x e.bounds;
       same = λ none. absurd (true≢false none);
       touches = e.touches;
     })
 
 pub returns : goal.returns
 returns c =
-    let v = offsets c.self.inside.units (allocator c.self.inside.memory c.self.inside.table c.self.inside.state.state) in
     let none : (c.self.inside.units ≤ c.args.units) × (c.args.units ≤ length c.self.inside.memory.bytes / 32 - 1) → ⊥ = λ can.
     true≢false (sym (c.can_have.ensures.1 (can.0, omega (arith, can.1, c.len.ensures.value))) ∙ c.if-can_have.false) in
     rw (← c.self.view_is) (record {
       longer = λ done. absurd (true≢false (sym done));
       which = (λ done. absurd (true≢false (sym done)), λ can. absurd (none can));
-      sized = sized-again v;
+      sized = sized-again (offsets c.self.inside.units (allocator c.self.inside.memory c.self.inside.table c.self.inside.state.state));
       same = λ none. record { space = refl; limit = refl; same = refl };
       touches = omega arith;
     })

@@ -12,6 +12,4 @@ returns c =
     let all = subst (λ (v : Offsets). AreAllBlocks v c.blocks-2.result) (sym c.self.view_is) c.blocks-2.ensures.blocks in
     let are = subst (λ (v : Offsets). AreSpaceTotals v c.totals_of.result) c.self.view_is
     (AreSpaceTotals-blocks c.self.invariant.shadow c.blocks-2.result c.totals_of.result all c.totals_of.ensures.totals) in
-    let whole = are.whole in
-    let longest = are.longest in
     record { totals = are; few = (omega arith, omega arith, omega arith) }

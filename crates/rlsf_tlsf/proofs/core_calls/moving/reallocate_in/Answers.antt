@@ -100,15 +100,13 @@ returns-in-Some g c =
     let there = e.result.0 in
     let still : IsHere p (range_at to (usable u).len) =
     λ a lo hi. left.here a (omega (arith, lo, from, there)) (is_here a (omega (arith, lo, holds.1, there)) (omega (arith, hi, holds.1, there))) in
-    record {
-      left = left;
-      step = step;
-      result = IsRelocated-at v u holds wide step left.core.stands left.costs.start left.own is_here still;
-      room = λ count most widest sized few short fits. refl;
-      bounds = bounded c.requires.core left u holds wide step;
-      refused = tt;
-      frame = framed c.requires.core left u holds wide step (omega (arith, first.costs.copied)) (λ room. copied_none first.costs);
-    }
+    assumption (
+      left,
+      step,
+      IsRelocated-at v u holds wide step left.core.stands left.costs.start left.own is_here still,
+      bounded c.requires.core left u holds wide step,
+      framed c.requires.core left u holds wide step (omega (arith, first.costs.copied)) (λ room. copied_none first.costs),
+    )
 
 -- ---- it can't stay
 
@@ -154,8 +152,6 @@ returns-then-to-eq0 g c =
     let d = (goal.at.returns-then-to-eq0 g c).In_default in
     let (u, holds, wide, _) = c.requires.here in
     let w = c.requires.core.stands.well_formed in
-    let o = c.resize_block_to.new.memory in
-    let p = c.move_block-to.new.memory in
     let s = state g d in
     let addr = c.args.addr in
     let size = c.args.layout.size in
@@ -179,7 +175,7 @@ returns-then-to-eq0 g c =
       bounds = bounded c.requires.core left u holds wide step;
       refused = record {
         same = reads now k kept (λ (x : State). x ≡ s) same;
-        bytes = subst (λ r. IfNone r (p.bytes ≡ o.bytes)) reply e.refused ∙ is.counts.bytes;
+        bytes = subst (λ r. IfNone r (c.move_block-to.new.memory.bytes ≡ c.resize_block_to.new.memory.bytes)) reply e.refused ∙ is.counts.bytes;
       };
       frame =
           framed c.requires.core left u holds wide step (omega (arith, e.copied s u is.stands (used_at g d), is.counts.copied)) (λ room. absurd (is.room room));
@@ -191,8 +187,6 @@ pub returns : goal.returns
 returns g c =
     let d = (goal.at.returns g c).In_default in
     let (u, holds, wide, is_here) = c.requires.here in
-    let o = c.resize_block_to.new.memory in
-    let p = c.move_block-to.new.memory in
     let s = state g d in
     let addr = c.args.addr in
     let size = c.args.layout.size in
@@ -209,14 +203,11 @@ returns g c =
     ∙ reallocated-bare c.requires.core.stands.well_formed t addr size to told in
     let step = reads now k kept (Reallocates g.row.SLLEN s addr size (Some to)) told in
     let left = LeavesCore-moved is.counts now k kept c.requires.core.valid spare e.costs e.own e.here in
-    let still = subst (IsHereStill o p u) reply (e.kept_here s u is.stands (used_at g d) (is.plan u holds)) (here g d) in
-    record {
-      left = left;
-      step = step;
-      result = IsRelocated-at c.requires.core.stands u holds wide step left.core.stands left.costs.start left.own is_here still;
-      room = λ count most widest sized few short fits. refl;
-      bounds = bounded c.requires.core left u holds wide step;
-      refused = tt;
-      frame =
-          framed c.requires.core left u holds wide step (omega (arith, e.copied s u is.stands (used_at g d), is.counts.copied)) (λ room. absurd (is.room room));
-    }
+    let still = subst (IsHereStill c.resize_block_to.new.memory c.move_block-to.new.memory u) reply (e.kept_here s u is.stands (used_at g d) (is.plan u holds)) (here g d) in
+    assumption (
+      left,
+      step,
+      IsRelocated-at c.requires.core.stands u holds wide step left.core.stands left.costs.start left.own is_here still,
+      bounded c.requires.core left u holds wide step,
+      framed c.requires.core left u holds wide step (omega (arith, e.copied s u is.stands (used_at g d), is.counts.copied)) (λ room. absurd (is.room room)),
+    )

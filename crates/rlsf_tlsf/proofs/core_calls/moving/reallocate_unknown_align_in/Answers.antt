@@ -53,18 +53,16 @@ resize_block_in-requires g c =
 pub returns-then-resize_block_in : goal.returns-then-resize_block_in
 returns-then-resize_block_in g c =
     let (u, holds) = c.requires.live in
-    let well = c.requires.core.stands.well_formed in
     let addr = c.args.addr in
     let size = c.args.layout.size in
     let s = read_from c.args.memory.now c.args.state.now.state in
     let t = read_from c.resize_block_in.new.memory c.resize_block_in.new.state.state in
     let same = read_from-counted c.find_block-block.ensures.counts c.args.state.now.state in
     let e = c.resize_block_in.ensures in
-    let yes = c.if-resize_block_in.true in
     let left = LeavesCore-counted_first c.find_block-block.ensures.counts e.left in
     let did : ReallocatesWithoutMove s addr size (Some addr) t =
-    subst (λ (x : State × Bool). ReallocatesWithoutMove x.0 addr size (stayed_if x.1 addr) t) (λ i. (same i, yes i)) e.step in
-    let is = subst (λ (x : State). IsResized x t addr size addr) same (e.result yes) in
+    subst (λ (x : State × Bool). ReallocatesWithoutMove x.0 addr size (stayed_if x.1 addr) t) (λ i. (same i, c.if-resize_block_in.true i)) e.step in
+    let is = subst (λ (x : State). IsResized x t addr size addr) same (e.result c.if-resize_block_in.true) in
     let kept = subst (λ (x : State). KeepsPayloadsResizing x t addr) same e.kept in
     let bounds = subst (λ (x : State). KeepsBoundsThere g.row.SLLEN x t addr size) same e.bounds in
     let still : align_at t addr ≡ align_at s addr = ap (λ f. f addr) kept.aligns in
@@ -72,9 +70,9 @@ returns-then-resize_block_in g c =
       left = LeavesCore-within (omega arith) (omega (arith, left.costs.copied)) left;
       step = stayed g.row.SLLEN c.args.layout.align did;
       result = (
-        omega (arith, IsUsed-after_start u (well.used u holds.0), holds.1),
+        omega (arith, IsUsed-after_start u (c.requires.core.stands.well_formed.used u holds.0), holds.1),
         record {
-          live = subst IsSome (sym (still ∙ align_at-held well addr u holds)) refl;
+          live = subst IsSome (sym (still ∙ align_at-held c.requires.core.stands.well_formed addr u holds)) refl;
           there = λ same. still;
           moved = λ apart. absurd (apart refl);
           gone = λ apart. absurd (apart refl);
@@ -189,7 +187,6 @@ returns-in-Some g c =
     let s = state g d no in
     let there = moves g d no in
     let addr = c.args.addr in
-    let size = c.args.layout.size in
     let align = c.args.layout.align in
     let to = c.in-Some.moved in
     let well = c.requires.core.stands.well_formed in
@@ -201,7 +198,7 @@ returns-in-Some g c =
     c.deallocate.ensures
     ∙ ap (deallocated addr) (c.allocate.ensures ∙ (λ i. allocated g.row.SLLEN (c.size.ensures.value i) (c.align.ensures.value i) (was i)))
     ∙ moved-bare well u holds c.args.layout.valid.aligned (none g d no) by in
-    let is = reads now k kept (λ (x : State). IsMoved g.row.SLLEN s x addr size align to) (moved well u holds c.args.layout.valid.aligned (none g d no) by) in
+    let is = reads now k kept (λ (x : State). IsMoved g.row.SLLEN s x addr c.args.layout.size align to) (moved well u holds c.args.layout.valid.aligned (none g d no) by) in
     let left = LeavesCore-moved there.counts now k kept c.requires.core.valid spare e.costs e.own e.here in
     record {
       left = left;

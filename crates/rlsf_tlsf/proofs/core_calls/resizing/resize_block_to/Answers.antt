@@ -40,14 +40,12 @@ resize_kept_block-requires g c =
 -- the bytes don't suffice
 pub returns-in_default : goal.returns-in_default
 returns-in_default g c =
-    let m = c.args.memory.now in
     let n = c.resize_kept_block.new.memory in
     let k = c.args.state.now.state in
-    let s = read_from m k in
+    let s = read_from c.args.memory.now k in
     let (u, holds, start, own) = c.requires.own in
-    let e = c.in_default.ensures in
-    let (counts, table) = e.unchanged in
-    let none = e.refused s u c.requires.core.stands (record { is_used = holds.0; start = start; caller = holds.1; alignment = refl }) in
+    let (counts, table) = c.in_default.ensures.unchanged in
+    let none = c.in_default.ensures.refused s u c.requires.core.stands (record { is_used = holds.0; start = start; caller = holds.1; alignment = refl }) in
     let same : read_from n k ≡ s = read_from-counted counts k in
     record {
       left = LeavesCore-within (omega arith) refl (LeavesCore-counted counts table refl c.requires.core);
@@ -61,9 +59,8 @@ returns-in_default g c =
 -- the payload has another size
 pub returns : goal.returns
 returns g c =
-    let m = c.args.memory.now in
     let n = c.resize_kept_block.new.memory in
-    let s = read_from m c.args.state.now.state in
+    let s = read_from c.args.memory.now c.args.state.now.state in
     let addr = c.args.addr in
     let size = c.args.layout.size in
     let are = c.requires.core in

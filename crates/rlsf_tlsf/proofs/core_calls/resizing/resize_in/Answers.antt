@@ -1,11 +1,7 @@
-use Rattle.std.proofs.Common.{arith, subst}
-use Rattle.rlsf_model.specs.NoMove.{ReallocatesWithoutMove}
-use Rattle.rlsf_model.specs.State.{State}
+use Rattle.std.proofs.Common.{arith}
 use Rattle.rlsf_blocks.specs.Laws.{read_from}
 use Rattle.rlsf_blocks.proofs.Counting.{Counts-counted_first}
-use Rattle.rlsf_tlsf.specs.CoreResizes.{KeepsBoundsThere, KeepsPayloadsResizing, stayed_if}
 use Rattle.rlsf_tlsf.specs.Cores.{found_cost}
-use Rattle.rlsf_tlsf.specs.Results.{IsResized}
 use Rattle.rlsf_tlsf.proofs.Reached.{IsCore-counted, LeavesCore-counted_first, read_from-counted}
 use Rattle.rlsf_tlsf.proofs.ResizedInPlace.{fits_found, own_found}
 use Rattle.rlsf_tlsf.proofs.core_calls.resizing.resize_in.Goals as goal
@@ -34,18 +30,14 @@ resize_block_in-requires g c =
 pub returns : goal.returns
 returns g c =
     let counts = c.find_block-block.ensures.counts in
-    let same = read_from-counted counts c.args.state.now.state in
     let e = c.resize_block_in.ensures in
     let o = c.resize_block_in.new.memory in
-    let t = read_from o c.resize_block_in.new.state.state in
-    let addr = c.args.addr in
-    let size = c.args.layout.size in
-    record {
+    rw (← read_from-counted counts c.args.state.now.state) (record {
       left = LeavesCore-counted_first counts e.left;
-      step = subst (λ (s : State). ReallocatesWithoutMove s addr size (stayed_if c.resize_block_in.result addr) t) same e.step;
-      result = λ yes. subst (λ (s : State). IsResized s t addr size addr) same (e.result yes);
-      kept = subst (λ (s : State). KeepsPayloadsResizing s t addr) same e.kept;
-      bounds = subst (λ (s : State). KeepsBoundsThere g.row.SLLEN s t addr size) same e.bounds;
+      step = e.step;
+      result = e.result;
+      kept = e.kept;
+      bounds = e.bounds;
       refused = λ no. let r = e.refused no in
           record { counts = Counts-counted_first c.args.memory.now c.find_block-block.new.memory o (found_cost c.args.align) 2 counts r.counts; table = r.table; state = r.state };
-    }
+    })

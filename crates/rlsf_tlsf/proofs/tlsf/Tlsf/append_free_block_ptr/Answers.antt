@@ -17,11 +17,5 @@ pub returns : goal.returns
 returns g c =
     let before = allocator c.self-inside.inside.0.0.inner c.self-inside.inside.0.1.0 c.self-inside.inside.0.1.1.0.state in
     let e = c.append_in.ensures in
-    rw (← view-opened c.self-inside.view_is c.self.view_is) (record {
-      step = Steps-left (IsAllocator-opened c.self-inside.view_is c.self.invariant) e.left (Appends g.row.FLLEN before.state c.args.range c.append_in.result) e.step;
-      result = e.result;
-      bounds = e.bounds;
-      refused = e.refused;
-      frame = e.frame;
-      touches = e.left.costs.touches;
-    })
+    let step = Steps-left (IsAllocator-opened c.self-inside.view_is c.self.invariant) e.left (Appends g.row.FLLEN before.state c.args.range c.append_in.result) e.step in
+    rw (← view-opened c.self-inside.view_is c.self.view_is) (assumption (step, e))

@@ -1,11 +1,10 @@
-use Rattle.std.proofs.Common.{sym, ◌∙◌, subst, arith}
+use Rattle.std.proofs.Common.{sym, ◌∙◌, arith}
 use Rattle.rlsf_base.specs.Addr.{at}
 use Rattle.rlsf_base.proofs.Lending.Present.{own-none}
 use Rattle.rlsf_model.specs.Release.{Deallocates}
 use Rattle.rlsf_model.specs.State.{usable}
 use Rattle.rlsf_model.proofs.Chunks.{chunks-deallocated}
 use Rattle.rlsf_tlsf.specs.Allocator.{allocator}
-use Rattle.rlsf_tlsf.specs.Results.{IsDeallocated}
 use Rattle.rlsf_tlsf.proofs.Arrivals.{some_inside}
 use Rattle.rlsf_tlsf.proofs.Opened.{IsAllocator-opened, view-opened}
 use Rattle.rlsf_tlsf.proofs.Whole.{core_again, Steps-left, frame-left}
@@ -24,12 +23,6 @@ returns g c =
     let before = allocator c.self-inside.inside.0.0.inner c.self-inside.inside.0.1.0 c.self-inside.inside.0.1.1.0.state in
     let after = allocator c.deallocate_in.new.memory c.deallocate_in.new.table c.deallocate_in.new.state.state in
     let e = c.deallocate_in.ensures in
-    let addr = at c.args.addr in
-    let step = subst (λ a. Deallocates before.state a after.state) c.get.ensures.value e.step in
-    rw (← view-opened c.self-inside.view_is c.self.view_is) (record {
-      step = Steps-left is e.left (Deallocates before.state addr) step;
-      result = subst (IsDeallocated before.state after.state) c.get.ensures.value e.result;
-      bounds = e.bounds;
-      frame = frame-left is e.left (chunks-deallocated before.state after.state addr step);
-      touches = e.left.costs.touches;
-    })
+    let step = Steps-left is e.left (Deallocates before.state c.get.result) e.step in
+    let frame = frame-left is e.left (chunks-deallocated before.state after.state c.get.result e.step) in
+    rw (← view-opened c.self-inside.view_is c.self.view_is) (rw (← c.get.ensures.value) (assumption (step, frame, e)))

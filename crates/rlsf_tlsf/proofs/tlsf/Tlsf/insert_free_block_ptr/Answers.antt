@@ -11,9 +11,8 @@ use Rattle.rlsf_tlsf.proofs.tlsf.Tlsf.insert_free_block_ptr.Goals as goal
 
 pub insert_in-requires : goal.insert_in-requires
 insert_in-requires g c =
-    let old = c.args.self.now in
     let fresh = subst (λ (o : Allocator). IsFresh (range_of o.memory) o.state c.args.range) (sym (view-opened c.self-inside.view_is c.self.view_is))
-    (IsFresh-untouched (range_of old.memory) old.state c.args.range c.requires.lies_in c.requires.untouched) in
+    (IsFresh-untouched (range_of c.args.self.now.memory) c.args.self.now.state c.args.range c.requires.lies_in c.requires.untouched) in
     let own = own-none c.self-inside.inside.0.0.inner c.args.range (IsAllocator-opened c.self-inside.view_is c.self.invariant).whole in
     (omega arith, (core_again c.self-inside.view_is c.self.invariant g.FLBitmap.BitPattern.width_limit, (fresh, own)))
 
@@ -21,11 +20,5 @@ pub returns : goal.returns
 returns g c =
     let before = allocator c.self-inside.inside.0.0.inner c.self-inside.inside.0.1.0 c.self-inside.inside.0.1.1.0.state in
     let e = c.insert_in.ensures in
-    rw (← view-opened c.self-inside.view_is c.self.view_is) (record {
-      step = Steps-left (IsAllocator-opened c.self-inside.view_is c.self.invariant) e.left (Inserts g.row.FLLEN before.state c.args.range (reply c.insert_in.result)) e.step;
-      result = e.result;
-      bounds = e.bounds;
-      refused = e.refused;
-      frame = e.frame;
-      touches = e.left.costs.touches;
-    })
+    let step = Steps-left (IsAllocator-opened c.self-inside.view_is c.self.invariant) e.left (Inserts g.row.FLLEN before.state c.args.range (reply c.insert_in.result)) e.step in
+    rw (← view-opened c.self-inside.view_is c.self.view_is) (assumption (step, e))

@@ -18,9 +18,8 @@ is_consistent-requires g c =
 pub returns-clause-row : goal.returns-clause-row
 returns-clause-row g c = λ row.
     let m = c.self.inside.memory in
-    let t = c.self.inside.table in
     let own : IsRow (read_from m c.self.inside.state.state) (walked c.args.range) =
     subst (λ (o : Allocator). IsRow o.state (walked c.args.range)) (sym c.self.view_is) row in
     let same : m ≡ c.behind-self.inside.inner = ap (λ (o : Allocator). o.memory) c.self.view_is ∙ sym (c.behind-self.view_is ∙ c.memory_ref.ensures.memory) in
-    c.is_consistent.ensures.1 (subst (λ (n : Space). IsConsistent g.row.FLLEN g.row.SLLEN n t (walked c.args.range)) same
-    (represented_is_consistent g.row.FLLEN g.row.SLLEN m t (read_from m c.self.inside.state.state) (walked c.args.range) c.self.invariant.stands own))
+    c.is_consistent.ensures.1 (subst (λ (n : Space). IsConsistent g.row.FLLEN g.row.SLLEN n c.self.inside.table (walked c.args.range)) same
+    (represented_is_consistent g.row.FLLEN g.row.SLLEN m c.self.inside.table (read_from m c.self.inside.state.state) (walked c.args.range) c.self.invariant.stands own))

@@ -1,4 +1,4 @@
-use Rattle.std.proofs.Common.{◌≡◌, ℕ, ◌+◌, ◌^◌, ◌<◌, ◌≤◌, [], true, length, arith, ◌∙◌, ap, rules, sym, subst}
+use Rattle.std.proofs.Common.{◌≡◌, ◌+◌, ◌^◌, ◌<◌, [], length, ◌∙◌, ap, rules, sym, subst}
 use Rattle.rlsf_base.specs.Space.{Space}
 use Rattle.rlsf_model.specs.Insert.{IsUntouched}
 use Rattle.rlsf_model.specs.Sized.{live_bytes, live_count}
@@ -24,9 +24,7 @@ module _ (m n : Space) (same : m ≡ n) (none : m.out ≡ []) where
 -- it represents the empty state
 standing : (g : given.Over) (c : goal.After-new-2 g) → StandsFor g.row.FLLEN g.row.SLLEN (contents c.args.memory c.new.result) empty
 standing g c =
-    let m = c.memory.inside.inner in
-    let n = c.args.memory in
-    StandsFor-empty c.requires (bounds m n c.memory.view_is c.memory.invariant c.start.ensures.bounds) (c.new.ensures n)
+    StandsFor-empty c.requires (bounds c.memory.inside.inner c.args.memory c.memory.view_is c.memory.invariant c.start.ensures.bounds) (c.new.ensures c.args.memory)
 
 pub invariant_of-result : goal.invariant_of-result
 invariant_of-result g c =

@@ -1,4 +1,4 @@
-use Rattle.std.proofs.Common.{◌≡◌, ℕ, Bool, true, false, Some, sym, ◌∙◌, ap, subst, arith}
+use Rattle.std.proofs.Common.{◌≡◌, ℕ, Bool, true, false, Option, Some, sym, ◌∙◌, ap, subst, arith}
 use Rattle.rlsf_base.specs.Addr.{at}
 use Rattle.rlsf_base.proofs.Lending.Present.{own-none}
 use Rattle.rlsf_model.specs.Callers.{align_at}
@@ -56,16 +56,8 @@ module _ (g : given.Over) (c : After-resize_in g) where
   frame : KeepsFrameInPlace (at c.args.addr) c.args.layout.align before after
   frame =
       let kept = told (KeepsPayloadsResizing before.state after.state) c.resize_in.ensures.kept in
-      let costs = c.resize_in.ensures.left.costs in record {
-        live = ap (λ f. f (at c.args.addr)) kept.aligns ∙ live;
-        aligns = kept.aligns;
-        bytes = kept.bytes;
-        count = kept.count;
-        chunks = kept.chunks;
-        place = SamePlace-costs costs;
-        grow = costs.grow;
-        copied = copied_none costs;
-      }
+      let costs = c.resize_in.ensures.left.costs in
+      assumption (ap (λ (f : ℕ → Option ℕ). f (at c.args.addr)) kept.aligns ∙ live, kept, SamePlace-costs costs, copied_none costs, costs)
 
 pub returns-then-not-resize_in : goal.returns-then-not-resize_in
 returns-then-not-resize_in g c =

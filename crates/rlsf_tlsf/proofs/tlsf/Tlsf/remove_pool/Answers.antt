@@ -19,9 +19,5 @@ pub returns : goal.returns
 returns g c =
     let before = allocator c.self-inside.inside.0.0.inner c.self-inside.inside.0.1.0 c.self-inside.inside.0.1.1.0.state in
     let e = c.remove_in.ensures in
-    rw (← view-opened c.self-inside.view_is c.self.view_is) (record {
-      step = Steps-left (IsAllocator-opened c.self-inside.view_is c.self.invariant) e.left (Removes before.state (walked c.args.range)) e.step;
-      result = e.result;
-      frame = e.frame;
-      touches = e.touches;
-    })
+    let step = Steps-left (IsAllocator-opened c.self-inside.view_is c.self.invariant) e.left (Removes before.state (walked c.args.range)) e.step in
+    rw (← view-opened c.self-inside.view_is c.self.view_is) (assumption (step, e))

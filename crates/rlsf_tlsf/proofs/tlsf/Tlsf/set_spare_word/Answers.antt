@@ -15,9 +15,8 @@ use Rattle.rlsf_tlsf.proofs.tlsf.Tlsf.set_spare_word.Goals.{After-set_word}
 
 pub set_word-requires : goal.set_word-requires
 set_word-requires g c =
-    let m = c.self-inside.inside.0.0.inner in
     let (word, spare) = subst (λ (o : Allocator). IsSpareWord o.memory o.state c.args.addr) (sym (view-opened c.self-inside.view_is c.self.view_is)) c.requires in
-    (word.0, word.1, own-none m (word_range c.args.addr) (IsAllocator-opened c.self-inside.view_is c.self.invariant).whole)
+    (word.0, word.1, own-none c.self-inside.inside.0.0.inner (word_range c.args.addr) (IsAllocator-opened c.self-inside.view_is c.self.invariant).whole)
 
 -- the memory represents the state after it
 stands : (g : given.Over) (c : After-set_word g)
