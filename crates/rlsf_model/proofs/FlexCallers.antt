@@ -120,7 +120,8 @@ pub flex_callers_see_map : FlexCallersSeeMap
 flex_callers_see_map fllen sllen terms before after s u (insert r reply) notes w w' may step = absurd step
 flex_callers_see_map fllen sllen terms before after s u (append r reply) notes w w' may step = absurd step
 flex_callers_see_map fllen sllen terms before after s u (remove r) notes w w' may step = absurd step
-flex_callers_see_map fllen sllen terms before after s u (trim count) notes w w' may step = λ a. payload_at-unnamed w w' (trim count) (flex_step_goes fllen sllen terms s u (trim count) notes step) a (λ bad. bad) (λ bad. bad)
+flex_callers_see_map fllen sllen terms before after s u (trim count) notes w w' may step =
+    λ a. payload_at-unnamed w w' (trim count) (flex_step_goes fllen sllen terms s u (trim count) notes step) a (λ bad. bad) (λ bad. bad)
 flex_callers_see_map fllen sllen terms before after s u (allocate size align None) notes w w' may step = λ a. ap (λ (x : FlexState). payload_at x.machine a) step.extends.after
 flex_callers_see_map fllen sllen terms before after s u (allocate size align (Some addr)) notes w w' may (inl room) =
     placed_changes w w' s.machine refl size align addr (subst (λ (x : FlexState). Places sllen s.machine size align addr x.machine) (sym room.after) room.allocates)

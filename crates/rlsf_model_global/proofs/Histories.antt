@@ -66,7 +66,8 @@ module _ {memory : Range} (h : Heap) (w : IsHeap memory h) (g : Heap) where
     resizing_goes : row.1.align ≡ wanted.align → (result : Placed) → ResizesTo h addr wanted result g → Goes memory h g (λ a. (addr ≡ a) ⊎ IsPlacedAt result a)
     resizing_goes aligned (Ok to) ((notes, step, led), asked) =
         resized h w addr row there g to wanted asked notes aligned
-        (flex_goes h.source g.source w.owed.cursor h.flex w.flex w.owed g.flex notes led (machine_reallocates addr wanted.size (Some (at to))) tt (row_lives h addr row w.lists there) step)
+        (flex_goes h.source g.source w.owed.cursor h.flex w.flex w.owed g.flex notes led (machine_reallocates addr wanted.size (Some (at to))) tt
+        (row_lives h addr row w.lists there) step)
     resizing_goes aligned (Err NoRoom) step = stays_all h w (λ a. (addr ≡ a) ⊎ IsPlacedAt (Err NoRoom) a) g step.1
     resizing_goes aligned (Err e) step = absurd step
 

@@ -197,7 +197,8 @@ module _ {memory : Range} (h h' : Heap) (w : IsHeap memory h) (w' : IsHeap memor
         both (is_same row.1 layout) s t
         (λ x y.
         let same = same_layout x.layout y.layout (x.size ∙ sym y.size) (x.align ∙ sym y.align) in
-        reallocates_to enabled addr layout x.layout (row_lives h addr row w.lists there) m n x.made (subst (λ (l : Layout). ReallocatesTo enabled h' addr layout l n g') (sym same) y.made))
+        reallocates_to enabled addr layout x.layout (row_lives h addr row w.lists there) m n x.made
+        (subst (λ (l : Layout). ReallocatesTo enabled h' addr layout l n g') (sym same) y.made))
         (λ x y. (x.0 ∙ sym y.0, stay x.1 y.1))
 
     reallocates : (addr : ℕ) (wanted : Layout) (o : Option Row) (m n : Placed) → ReallocatesAt h addr wanted o m g → ReallocatesAt h' addr wanted o n g'

@@ -148,4 +148,6 @@ more_than_asked : GivesWith 8 8 generous
     (range_at 4224 101 ∷ range_at 4096 101 ∷ [])
     (Some (record { range = range_at 4224 101; len = 96 }))
     (dealloc (range_at 4224 101) ∷ dealloc (range_at 4096 101) ∷ [])
-more_than_asked = gives_with 8 8 generous (allocates (attempt 1 (range_came (range_at 4096 101))) ∷ allocates (attempt 1 refused) ∷ allocates (attempt 1 (range_came (range_at 4224 101))) ∷ []) refl
+more_than_asked =
+    gives_with 8 8 generous (allocates (attempt 1 (range_came (range_at 4096 101))) ∷ allocates (attempt 1 refused)
+    ∷ allocates (attempt 1 (range_came (range_at 4224 101))) ∷ []) refl
