@@ -40,23 +40,23 @@ use Rattle.rlsf_heap.specs.contracts.loan.Loan as loan
 use Rattle.rlsf_heap.proofs.loan.Loan.TheLaws as loan_laws
 use Rattle.rlsf_heap.proofs.loan.Loan.from_raw.Symbol as loan_from_raw
 use Rattle.rlsf_heap.proofs.loan.Loan.from_raw.Met.{met as loan_from_raw_met}
-use Rattle.rlsf_malloc.specs.contracts.replies.Lending as lending
-use Rattle.rlsf_malloc.proofs.replies.Lending.TheLaws as lending_laws
-use Rattle.rlsf_malloc.proofs.replies.Lending.into_raw.Symbol as lending_into_raw
-use Rattle.rlsf_malloc.proofs.replies.Lending.into_raw.Met.{met as lending_into_raw_met}
+use Rattle.rlsf_malloc_calls.specs.contracts.replies.Lending as lending
+use Rattle.rlsf_malloc_calls.proofs.replies.Lending.TheLaws as lending_laws
+use Rattle.rlsf_malloc_calls.proofs.replies.Lending.into_raw.Symbol as lending_into_raw
+use Rattle.rlsf_malloc_calls.proofs.replies.Lending.into_raw.Met.{met as lending_into_raw_met}
 use Rattle.rlsf_heap.proofs.thin.ThinPayload.TheLaws as payload_laws
 use Rattle.rlsf_heap.proofs.thin.ThinPayload.from_raw.Symbol as from_raw
 use Rattle.rlsf_heap.proofs.thin.ThinPayload.from_raw.Met.{met as from_raw_met}
 use Rattle.rlsf_heap.proofs.thin.ThinPayload.into_raw.Symbol as into_raw
 use Rattle.rlsf_heap.proofs.thin.ThinPayload.into_raw.Met.{met as into_raw_met}
-use Rattle.rlsf_malloc.specs.Blocks.{AreTotals, IsAny, IsCheckOf, IsListing}
-use Rattle.rlsf_malloc.specs.Calls.{AllocatesPayload, AllocatesZeroed, IsFreshHeap, IsOver, IsReady, OwnsLent, aligned_for}
-use Rattle.rlsf_malloc.specs.contracts.replies.Reply as reply
-use Rattle.rlsf_malloc.proofs.replies.Reply.TheLaws as reply_laws
-use Rattle.rlsf_malloc.proofs.replies.Reply.into_raw.Symbol as reply_into_raw
-use Rattle.rlsf_malloc.proofs.replies.Reply.into_raw.Met.{met as reply_into_raw_met}
+use Rattle.rlsf_malloc_calls.specs.Blocks.{AreTotals, IsAny, IsCheckOf, IsListing}
+use Rattle.rlsf_malloc_calls.specs.Calls.{AllocatesPayload, AllocatesZeroed, IsFreshHeap, IsOver, IsReady, OwnsLent, aligned_for}
+use Rattle.rlsf_malloc_calls.specs.contracts.replies.Reply as reply
+use Rattle.rlsf_malloc_calls.proofs.replies.Reply.TheLaws as reply_laws
+use Rattle.rlsf_malloc_calls.proofs.replies.Reply.into_raw.Symbol as reply_into_raw
+use Rattle.rlsf_malloc_calls.proofs.replies.Reply.into_raw.Met.{met as reply_into_raw_met}
 use Rattle.rlsf_malloc.proofs.HeapKinds.{Kind, row}
-use Rattle.rlsf_malloc.proofs.Outcomes.{fresh}
+use Rattle.rlsf_malloc_calls.proofs.Outcomes.{fresh}
 use Rattle.rlsf_malloc.proofs.Payloads as does
 use Rattle.rlsf_malloc.proofs.Payloads.{loans, payloads}
 use Rattle.rlsf_malloc.proofs.Templates.Begins
@@ -70,38 +70,38 @@ use Rattle.rlsf_malloc.proofs.Templates.Takes
 use Rattle.rlsf_malloc.proofs.Templates.Trades0
 use Rattle.rlsf_malloc.proofs.Templates.Trades1
 use Rattle.rlsf_malloc.proofs.Templates.Trades2
-use Rattle.rlsf_malloc.proofs.calls.add.Symbol as add
-use Rattle.rlsf_malloc.proofs.calls.add.Met.{met as add_met}
-use Rattle.rlsf_malloc.proofs.calls.append.Symbol as append
-use Rattle.rlsf_malloc.proofs.calls.append.Met.{met as append_met}
-use Rattle.rlsf_malloc.proofs.calls.malloc.Symbol as malloc
-use Rattle.rlsf_malloc.proofs.calls.malloc.Met.{met as malloc_met}
-use Rattle.rlsf_malloc.proofs.calls.allocate.Symbol as allocate
-use Rattle.rlsf_malloc.proofs.calls.allocate.Met.{met as allocate_met}
-use Rattle.rlsf_malloc.proofs.calls.allocate_zeroed.Symbol as allocate_zeroed
-use Rattle.rlsf_malloc.proofs.calls.allocate_zeroed.Met.{met as allocate_zeroed_met}
-use Rattle.rlsf_malloc.proofs.calls.free.Symbol as free
-use Rattle.rlsf_malloc.proofs.calls.free.Met.{met as free_met}
-use Rattle.rlsf_malloc.proofs.calls.usable.Symbol as usable
-use Rattle.rlsf_malloc.proofs.calls.usable.Met.{met as usable_met}
-use Rattle.rlsf_malloc.proofs.resizing.resize_any.Symbol as resize_any
-use Rattle.rlsf_malloc.proofs.resizing.resize_any.Met.{met as resize_any_met}
-use Rattle.rlsf_malloc.proofs.resizing.resize_aligned.Symbol as resize_aligned
-use Rattle.rlsf_malloc.proofs.resizing.resize_aligned.Met.{met as resize_aligned_met}
-use Rattle.rlsf_malloc.proofs.resizing.resize_in_place.Symbol as resize_in_place
-use Rattle.rlsf_malloc.proofs.resizing.resize_in_place.Met.{met as resize_in_place_met}
-use Rattle.rlsf_malloc.proofs.pools.totals_in.Symbol as totals_in
-use Rattle.rlsf_malloc.proofs.pools.totals_in.Met.{met as totals_in_met}
-use Rattle.rlsf_malloc.proofs.pools.list_in.Symbol as list_in
-use Rattle.rlsf_malloc.proofs.pools.list_in.Met.{met as list_in_met}
-use Rattle.rlsf_malloc.proofs.pools.check_in.Symbol as check_in
-use Rattle.rlsf_malloc.proofs.pools.check_in.Met.{met as check_in_met}
-use Rattle.rlsf_malloc.proofs.pools.remove_in.Symbol as remove_in
-use Rattle.rlsf_malloc.proofs.pools.remove_in.Met.{met as remove_in_met}
-use Rattle.rlsf_malloc.proofs.calls.over.Symbol as over
-use Rattle.rlsf_malloc.proofs.calls.over.Met.{met as over_met}
-use Rattle.rlsf_malloc.proofs.calls.parts.Symbol as parts
-use Rattle.rlsf_malloc.proofs.calls.parts.Met.{met as parts_met}
+use Rattle.rlsf_malloc_calls.proofs.calls.add.Symbol as add
+use Rattle.rlsf_malloc_calls.proofs.calls.add.Met.{met as add_met}
+use Rattle.rlsf_malloc_calls.proofs.calls.append.Symbol as append
+use Rattle.rlsf_malloc_calls.proofs.calls.append.Met.{met as append_met}
+use Rattle.rlsf_malloc_calls.proofs.calls.malloc.Symbol as malloc
+use Rattle.rlsf_malloc_calls.proofs.calls.malloc.Met.{met as malloc_met}
+use Rattle.rlsf_malloc_calls.proofs.calls.allocate.Symbol as allocate
+use Rattle.rlsf_malloc_calls.proofs.calls.allocate.Met.{met as allocate_met}
+use Rattle.rlsf_malloc_calls.proofs.calls.allocate_zeroed.Symbol as allocate_zeroed
+use Rattle.rlsf_malloc_calls.proofs.calls.allocate_zeroed.Met.{met as allocate_zeroed_met}
+use Rattle.rlsf_malloc_calls.proofs.calls.free.Symbol as free
+use Rattle.rlsf_malloc_calls.proofs.calls.free.Met.{met as free_met}
+use Rattle.rlsf_malloc_calls.proofs.calls.usable.Symbol as usable
+use Rattle.rlsf_malloc_calls.proofs.calls.usable.Met.{met as usable_met}
+use Rattle.rlsf_malloc_calls.proofs.resizing.resize_any.Symbol as resize_any
+use Rattle.rlsf_malloc_calls.proofs.resizing.resize_any.Met.{met as resize_any_met}
+use Rattle.rlsf_malloc_calls.proofs.resizing.resize_aligned.Symbol as resize_aligned
+use Rattle.rlsf_malloc_calls.proofs.resizing.resize_aligned.Met.{met as resize_aligned_met}
+use Rattle.rlsf_malloc_calls.proofs.resizing.resize_in_place.Symbol as resize_in_place
+use Rattle.rlsf_malloc_calls.proofs.resizing.resize_in_place.Met.{met as resize_in_place_met}
+use Rattle.rlsf_malloc_calls.proofs.pools.totals_in.Symbol as totals_in
+use Rattle.rlsf_malloc_calls.proofs.pools.totals_in.Met.{met as totals_in_met}
+use Rattle.rlsf_malloc_calls.proofs.pools.list_in.Symbol as list_in
+use Rattle.rlsf_malloc_calls.proofs.pools.list_in.Met.{met as list_in_met}
+use Rattle.rlsf_malloc_calls.proofs.pools.check_in.Symbol as check_in
+use Rattle.rlsf_malloc_calls.proofs.pools.check_in.Met.{met as check_in_met}
+use Rattle.rlsf_malloc_calls.proofs.pools.remove_in.Symbol as remove_in
+use Rattle.rlsf_malloc_calls.proofs.pools.remove_in.Met.{met as remove_in_met}
+use Rattle.rlsf_malloc_calls.proofs.calls.over.Symbol as over
+use Rattle.rlsf_malloc_calls.proofs.calls.over.Met.{met as over_met}
+use Rattle.rlsf_malloc_calls.proofs.calls.parts.Symbol as parts
+use Rattle.rlsf_malloc_calls.proofs.calls.parts.Met.{met as parts_met}
 
 module _ (K : Kind) {M : Type 1} (𝓤 : Ura M) (𝓛 : Logic 𝓤) (𝓜 : Model 𝓤 𝓛.H) (𝓡 : Running 𝓤 𝓛.H 𝓜) where
   -- the type arguments of the generic calls, and what these meet at them

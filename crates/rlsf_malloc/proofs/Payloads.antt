@@ -6,11 +6,11 @@ use Rattle.rlsf_heap.specs.contracts.thin.ThinPayload as thin
 use Rattle.rlsf_base.specs.Piece.{Piece}
 use Rattle.rlsf_heap.specs.Loans.{owns_loan}
 use Rattle.rlsf_heap.specs.contracts.loan.Loan as loan
-use Rattle.rlsf_malloc.specs.contracts.replies.Lending as lending
-use Rattle.rlsf_malloc.specs.Calls.{AddsLent, AppendsLent, CanAppend, CanLend, CanRemove, Frees, IsPayloadAt, IsReady, IsUsableSize, RemovesLent, aligned_for}
-use Rattle.rlsf_malloc.specs.Replies.{reply_number}
-use Rattle.rlsf_malloc.specs.Resizing.{ResizesAligned, ResizesAny, ResizesInPlace}
-use Rattle.rlsf_malloc.specs.contracts.replies.Reply as reply
+use Rattle.rlsf_malloc_calls.specs.contracts.replies.Lending as lending
+use Rattle.rlsf_malloc_calls.specs.Calls.{AddsLent, AppendsLent, CanAppend, CanLend, CanRemove, Frees, IsPayloadAt, IsReady, IsUsableSize, RemovesLent, aligned_for}
+use Rattle.rlsf_malloc_calls.specs.Replies.{reply_number}
+use Rattle.rlsf_malloc_calls.specs.Resizing.{ResizesAligned, ResizesAny, ResizesInPlace}
+use Rattle.rlsf_malloc_calls.specs.contracts.replies.Reply as reply
 use Rattle.rlsf_malloc.proofs.HeapKinds.{Kind, row}
 use Rattle.rlsf_malloc.proofs.Steps.{Payloads}
 use Rattle.rlsf_malloc.proofs.Templates.Takes.{Export as Takes}

@@ -1,13 +1,13 @@
 -- Exports that lend the words behind the handle to a call, pass it a slice that is only read, and return a number.
-use Rattle.rlsf_malloc.proofs.Walking.{ℕ, List, [], ◌∷◌, ◌++◌, refl, w64, proved, full_share, id⊢, ftrue, flft, vptr, WpFn, fact, tables, ‵, raw, ◌⊛◌, some, later}
-use Rattle.rlsf_malloc.proofs.Walking.{prop, ◌$◌, ◌∵◌, !, qed, done, move, keep, drop, use0, use1, use2, use3, split, join, fsplit, fpack, pick}
-use Rattle.rlsf_malloc.proofs.Walking.{await, suffices, group, lft_end, enter, of_opd, addr, stop, no_more, and_then, returns, alloc_all, pass_all, free_all}
-use Rattle.rlsf_malloc.proofs.Walking.{look_at, get, through, sets, lands_as, yes, ref_back, part_at, Ptr, RawPtr, block_ptr, lies_at}
-use Rattle.rlsf_malloc.proofs.Walking.{rawptr_vals, rawptr_Tells, plain, nothing, heard, calls_at, lasts, triple_of, Stays, walk_of, stay_dropped}
-use Rattle.rlsf_malloc.proofs.Walking.{Goes-dropped, ends_at, framed, usize, Is, shows, peeks, uint_Lawful, Ura, sep, Logic, sem}
-use Rattle.rlsf_malloc.proofs.Walking.{Model, Closed, Running, Fn, Callee, Ty, local, value_local, ty_ptr, ty_int, ty_ref, erased, mut, seq, assign, place}
-use Rattle.rlsf_malloc.proofs.Walking.{rv_opd, copy, addr_of, deref, call, return, RattleType, RefMutOf, Ended, Clauses, closing, Meets}
-use Rattle.rlsf_malloc.proofs.Walking.{fact_i, emp}
+use Rattle.rlsf_malloc_calls.proofs.Walking.{ℕ, List, [], ◌∷◌, ◌++◌, refl, w64, proved, full_share, id⊢, ftrue, flft, vptr, WpFn, fact, tables, ‵, raw, ◌⊛◌, some, later}
+use Rattle.rlsf_malloc_calls.proofs.Walking.{prop, ◌$◌, ◌∵◌, !, qed, done, move, keep, drop, use0, use1, use2, use3, split, join, fsplit, fpack, pick}
+use Rattle.rlsf_malloc_calls.proofs.Walking.{await, suffices, group, lft_end, enter, of_opd, addr, stop, no_more, and_then, returns, alloc_all, pass_all, free_all}
+use Rattle.rlsf_malloc_calls.proofs.Walking.{look_at, get, through, sets, lands_as, yes, ref_back, part_at, Ptr, RawPtr, block_ptr, lies_at}
+use Rattle.rlsf_malloc_calls.proofs.Walking.{rawptr_vals, rawptr_Tells, plain, nothing, heard, calls_at, lasts, triple_of, Stays, walk_of, stay_dropped}
+use Rattle.rlsf_malloc_calls.proofs.Walking.{Goes-dropped, ends_at, framed, usize, Is, shows, peeks, uint_Lawful, Ura, sep, Logic, sem}
+use Rattle.rlsf_malloc_calls.proofs.Walking.{Model, Closed, Running, Fn, Callee, Ty, local, value_local, ty_ptr, ty_int, ty_ref, erased, mut, seq, assign, place}
+use Rattle.rlsf_malloc_calls.proofs.Walking.{rv_opd, copy, addr_of, deref, call, return, RattleType, RefMutOf, Ended, Clauses, closing, Meets}
+use Rattle.rlsf_malloc_calls.proofs.Walking.{fact_i, emp}
 use Rattle.std.proofs.Common.{◌<◌, ◌^◌}
 use base.Logic.{SProp, ent}
 use mir.Syntax.{named}

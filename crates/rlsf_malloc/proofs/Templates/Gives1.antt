@@ -1,12 +1,13 @@
 -- Exports that lend the heap behind the handle to a call with one number, and pass what it returns to the caller.
-use Rattle.rlsf_malloc.proofs.Walking.{◌≡◌, ℕ, List, [], ◌∷◌, ◌++◌, refl, sym, w64, proved, full_share, ftrue, WpFn, tables, ‵, raw, some, prop, ◌$◌, ◌∵◌, !, qed}
-use Rattle.rlsf_malloc.proofs.Walking.{done, move, keep, drop, join, pick, suffices, group, enter, of_opd, addr, stop, no_more, and_then, returns, alloc_all}
-use Rattle.rlsf_malloc.proofs.Walking.{pass_all, free_all, look_at, get, through, sets, lands_as, yes, uint_vals, uint_Tells, uint_Lawful, Ptr, RawPtr}
-use Rattle.rlsf_malloc.proofs.Walking.{block_ptr, lies_at, rawptr_vals, rawptr_Tells, plain, nothing, owned, on_entry, Stays, walk_of, stay_dropped}
-use Rattle.rlsf_malloc.proofs.Walking.{Goes-dropped, ends_at, framed, usize, uint_Makes, Ura, Logic, sem, Model, Closed, Running, Fn, Callee}
-use Rattle.rlsf_malloc.proofs.Walking.{Ty, local, value_local, ty_ptr, ty_int, ty_ref, erased, mut, seq, assign, place, rv_opd, copy, addr_of, deref, call}
-use Rattle.rlsf_malloc.proofs.Walking.{return, RattleType, Ended, Clauses, closing, Meets}
-use Rattle.rlsf_malloc.proofs.Steps.{called, changes, finished, gives_out, lends_heap, passes, passes_number}
+use Rattle.rlsf_malloc_calls.proofs.Walking.{◌≡◌, ℕ, List, [], ◌∷◌, ◌++◌, refl, sym, w64, proved, full_share, ftrue, WpFn, tables, ‵, raw, some, prop, ◌$◌, ◌∵◌, !, qed}
+use Rattle.rlsf_malloc_calls.proofs.Walking.{done, move, keep, drop, join, pick, suffices, group, enter, of_opd, addr, stop, no_more, and_then, returns, alloc_all}
+use Rattle.rlsf_malloc_calls.proofs.Walking.{pass_all, free_all, look_at, get, through, sets, lands_as, yes, uint_vals, uint_Tells, uint_Lawful, Ptr, RawPtr}
+use Rattle.rlsf_malloc_calls.proofs.Walking.{block_ptr, lies_at, rawptr_vals, rawptr_Tells, plain, nothing, owned, on_entry, Stays, walk_of, stay_dropped}
+use Rattle.rlsf_malloc_calls.proofs.Walking.{Goes-dropped, ends_at, framed, usize, uint_Makes, Ura, Logic, sem, Model, Closed, Running, Fn, Callee}
+use Rattle.rlsf_malloc_calls.proofs.Walking.{Ty, local, value_local, ty_ptr, ty_int, ty_ref, erased, mut, seq, assign, place, rv_opd, copy, addr_of, deref, call}
+use Rattle.rlsf_malloc_calls.proofs.Walking.{return, RattleType, Ended, Clauses, closing, Meets}
+use Rattle.rlsf_malloc_calls.proofs.PassedNumbers.{finished, passes, passes_number}
+use Rattle.rlsf_malloc.proofs.Steps.{called, changes, gives_out, lends_heap}
 use Rattle.rlsf_malloc.proofs.HeapKinds.{Kind, row}
 use Rattle.rlsf_malloc.proofs.Templates.Signatures.{one_number}
 use Rattle.rlsf_c_lemmas.proofs.Lending.{in_its_block}
@@ -19,7 +20,7 @@ use Rattle.rlsf_heap.specs.Heap.{HeapView, PayloadView}
 use Rattle.rlsf_heap.specs.Thin.{owns_reply}
 use Rattle.rlsf_heap.specs.contracts.thin.ThinPayload as payload
 use Rattle.rlsf_heap.proofs.thin.ThinPayload.TheLaws as payload_laws
-use Rattle.rlsf_malloc.specs.Calls.{IsReady}
+use Rattle.rlsf_malloc_calls.specs.Calls.{IsReady}
 use Rattle.rlsf_malloc.specs.Handle.{HoldsValue, HoldsBeside}
 
 -- the code

@@ -1,5 +1,5 @@
 -- The signatures that exports of several shapes have, and what the calls are passed beside the heap.
-use Rattle.rlsf_malloc.proofs.Walking.{List, [], ◌∷◌, yes, RawPtr, plain, usize, RattleType, Ended}
+use Rattle.rlsf_malloc_calls.proofs.Walking.{List, [], ◌∷◌, yes, RawPtr, plain, usize, RattleType, Ended}
 use denote.Signature.{Slot}
 
 -- a handle and one number, or two

@@ -1,12 +1,13 @@
 -- As `Trades0`, of calls with one more number.
-use Rattle.rlsf_malloc.proofs.Walking.{◌≡◌, ℕ, List, [], ◌∷◌, ◌++◌, refl, w64, proved, full_share, WpFn, fact, tables, ‵, raw, ◌⊛◌, some, prop, ◌$◌, ◌∵◌, ! }
-use Rattle.rlsf_malloc.proofs.Walking.{qed, done, move, keep, drop, split, join, pick, suffices, group, enter, of_opd, addr, stop, no_more, and_then, returns}
-use Rattle.rlsf_malloc.proofs.Walking.{alloc_all, pass_all, free_all, look_at, get, through, sets, lands_as, yes, uint_vals, uint_Tells, uint_Lawful, Ptr}
-use Rattle.rlsf_malloc.proofs.Walking.{RawPtr, block_ptr, lies_at, rawptr_vals, rawptr_Tells, plain, nothing, owned, heard, on_entry, Stays, walk_of}
-use Rattle.rlsf_malloc.proofs.Walking.{stay_dropped, Goes-dropped, ends_at, framed, usize, uint_Makes, Ura, Fml, sep, Logic, sem, Fn, Callee, Ty, local}
-use Rattle.rlsf_malloc.proofs.Walking.{value_local, ty_ptr, ty_int, ty_ref, erased, mut, seq, assign, place, rv_opd, copy, addr_of, deref, call, return}
-use Rattle.rlsf_malloc.proofs.Walking.{RattleType, Ended, Clauses}
-use Rattle.rlsf_malloc.proofs.Steps.{Payloads, Trades, called, changes, gives_out, lends_heap, passes_number, takes_payload}
+use Rattle.rlsf_malloc_calls.proofs.Walking.{◌≡◌, ℕ, List, [], ◌∷◌, ◌++◌, refl, w64, proved, full_share, WpFn, fact, tables, ‵, raw, ◌⊛◌, some, prop, ◌$◌, ◌∵◌, ! }
+use Rattle.rlsf_malloc_calls.proofs.Walking.{qed, done, move, keep, drop, split, join, pick, suffices, group, enter, of_opd, addr, stop, no_more, and_then, returns}
+use Rattle.rlsf_malloc_calls.proofs.Walking.{alloc_all, pass_all, free_all, look_at, get, through, sets, lands_as, yes, uint_vals, uint_Tells, uint_Lawful, Ptr}
+use Rattle.rlsf_malloc_calls.proofs.Walking.{RawPtr, block_ptr, lies_at, rawptr_vals, rawptr_Tells, plain, nothing, owned, heard, on_entry, Stays, walk_of}
+use Rattle.rlsf_malloc_calls.proofs.Walking.{stay_dropped, Goes-dropped, ends_at, framed, usize, uint_Makes, Ura, Fml, sep, Logic, sem, Fn, Callee, Ty, local}
+use Rattle.rlsf_malloc_calls.proofs.Walking.{value_local, ty_ptr, ty_int, ty_ref, erased, mut, seq, assign, place, rv_opd, copy, addr_of, deref, call, return}
+use Rattle.rlsf_malloc_calls.proofs.Walking.{RattleType, Ended, Clauses}
+use Rattle.rlsf_malloc_calls.proofs.PassedNumbers.{passes_number}
+use Rattle.rlsf_malloc.proofs.Steps.{Payloads, Trades, called, changes, gives_out, lends_heap, takes_payload}
 use Rattle.rlsf_malloc.proofs.HeapKinds.{Kind, row}
 use Rattle.rlsf_malloc.proofs.Templates.Signatures.{two_numbers}
 use Rattle.rlsf_c_lemmas.proofs.Lending.{in_its_block}
