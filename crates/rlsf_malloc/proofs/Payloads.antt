@@ -98,44 +98,26 @@ module _ (K : Kind) where
         (z.payload.of, subst (λ (p : PayloadView). ResizesAligned K.classes v x p n k (reply_number z) z.payload.of w) made.1 did, refl);
   }
 
-  abbrev pub adds : Trades1 (row K) loans
-  adds = record {
+  -- what lends bytes to a heap, or asks for them: `Can` says when a call may be made, and `Did` what it does
+  abbrev lends : (HeapView → ℕ → ℕ → Piece → Type 0) → (HeapView → ℕ → ℕ → ℕ → Piece → HeapView → Type 0) → Trades1 (row K) loans
+  lends Can Did = record {
     S = λ v. IsReady v;
     Z = lending.the_row;
     num = λ z. z.number;
     gives = λ z. owns_loan z.loan.of;
-    Fact = λ v d x n. CanLend v x n d;
-    Asks = λ v x q n. IsReady v × CanLend v x n q.of;
-    Post = λ v x q n z w. AddsLent K.rows v x n z.number z.loan.of w;
-    Outer = λ v d x n r w p. AddsLent K.rows v x n r p w;
-    asks = λ v d x n q ready known made. (ready, subst (λ (p : Piece). CanLend v x n p) (sym made.1) known);
+    Fact = λ v d x n. Can v x n d;
+    Asks = λ v x q n. IsReady v × Can v x n q.of;
+    Post = λ v x q n z w. Did v x n z.number z.loan.of w;
+    Outer = λ v d x n r w p. Did v x n r p w;
+    asks = λ v d x n q ready known made. (ready, subst (λ (p : Piece). Can v x n p) (sym made.1) known);
     packs = λ v d x n q z w ready known made did. (z.loan.of, did, refl);
   }
+
+  abbrev pub adds : Trades1 (row K) loans
+  adds = lends CanLend (AddsLent K.rows)
 
   abbrev pub appends : Trades1 (row K) loans
-  appends = record {
-    S = λ v. IsReady v;
-    Z = lending.the_row;
-    num = λ z. z.number;
-    gives = λ z. owns_loan z.loan.of;
-    Fact = λ v d x n. CanAppend v x n d;
-    Asks = λ v x q n. IsReady v × CanAppend v x n q.of;
-    Post = λ v x q n z w. AppendsLent K.rows v x n z.number z.loan.of w;
-    Outer = λ v d x n r w p. AppendsLent K.rows v x n r p w;
-    asks = λ v d x n q ready known made. (ready, subst (λ (p : Piece). CanAppend v x n p) (sym made.1) known);
-    packs = λ v d x n q z w ready known made did. (z.loan.of, did, refl);
-  }
+  appends = lends CanAppend (AppendsLent K.rows)
 
   abbrev pub removes : Trades1 (row K) loans
-  removes = record {
-    S = λ v. IsReady v;
-    Z = lending.the_row;
-    num = λ z. z.number;
-    gives = λ z. owns_loan z.loan.of;
-    Fact = λ v d x n. CanRemove v x n d;
-    Asks = λ v x q n. IsReady v × CanRemove v x n q.of;
-    Post = λ v x q n z w. RemovesLent v x n z.number z.loan.of w;
-    Outer = λ v d x n r w p. RemovesLent v x n r p w;
-    asks = λ v d x n q ready known made. (ready, subst (λ (p : Piece). CanRemove v x n p) (sym made.1) known);
-    packs = λ v d x n q z w ready known made did. (z.loan.of, did, refl);
-  }
+  removes = lends CanRemove RemovesLent

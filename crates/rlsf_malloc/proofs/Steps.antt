@@ -55,10 +55,13 @@ module _ {M : Type 1} {𝓤 : Ura M} (𝓛 : Logic 𝓤) where
   abbrev pub takes : (Q : RattleType) {D : Type 0} → (D → Fml) → (ℕ → D → Q.Denot → Type 0) → Clauses 𝓤 (taken Q)
   takes Q {D} owns Makes κs a = record { ghost = D; requires = λ d. sem 𝓛 (owns d); ensures = λ d r end. fact 𝓤 (Makes a.0 d r) }
 
-  -- what a call requires of its type parameters, beside P, where these last for the lifetimes κs
+  -- what a call on a value of the type R requires of its type parameters, beside P, where these last for the lifetimes κs
+  abbrev pub at_row : RattleType → Kind → Lfts 4 → Type 0 → SProp 𝓤
+  at_row R K κs P = sep 𝓤 (fact 𝓤 (κs.0 ⊑ K.B.lives)) (sep 𝓤 (fact 𝓤 (κs.1.0 ⊑ K.B.lives)) (sep 𝓤 (fact 𝓤 (κs.1.1.0 ⊑ [])) (sep 𝓤 (fact 𝓤 (κs.1.1.1.0 ⊑ []))
+      (sep 𝓤 (fact 𝓤 (size (layout R) < 2 ^ 63)) (fact 𝓤 P)))))
+
   abbrev pub at_kind : Kind → Lfts 4 → Type 0 → SProp 𝓤
-  at_kind K κs P = sep 𝓤 (fact 𝓤 (κs.0 ⊑ K.B.lives)) (sep 𝓤 (fact 𝓤 (κs.1.0 ⊑ K.B.lives)) (sep 𝓤 (fact 𝓤 (κs.1.1.0 ⊑ [])) (sep 𝓤 (fact 𝓤 (κs.1.1.1.0 ⊑ []))
-      (sep 𝓤 (fact 𝓤 (size (layout (row K)) < 2 ^ 63)) (fact 𝓤 P)))))
+  at_kind K = at_row (row K) K
 
   abbrev pub changes : (K : Kind) (more : List (Slot 5)) (keeps : Kepts more) (Z : RattleType)
       → ((κs : Lfts 5) → (row K).Denot → Denots (types_at more κs) → Type 0)
@@ -82,12 +85,15 @@ module _ {M : Type 1} {𝓤 : Ura M} (𝓛 : Logic 𝓤) where
       use0 𝓛 (‵ (flft [] full_share)) (𝓛.lfts.lft-nil full_share) $ join ! $ use0 𝓛 (‵ (flft [] full_share)) (𝓛.lfts.lft-nil full_share) $ join ! $
       use0 𝓛 (‵ (flft [] full_share)) (𝓛.lfts.lft-nil full_share) $ join ! $ done !
 
-  pub kind_lasts : (K : Kind) (P : Type 0) → P → ent 𝓤 (emp 𝓤) (at_kind K lasting P)
-  kind_lasts K P p = qed 𝓛 [] ∵ use0 𝓛 (raw (fact 𝓤 P)) (fact_i 𝓤 P (emp 𝓤) p) $
-      use0 𝓛 (raw (fact 𝓤 (size (layout (row K)) < 2 ^ 63))) (fact_i 𝓤 _ (emp 𝓤) K.small) $ join ! $
+  pub row_lasts : (R : RattleType) (K : Kind) → size (layout R) < 2 ^ 63 → (P : Type 0) → P → ent 𝓤 (emp 𝓤) (at_row R K lasting P)
+  row_lasts R K small P p = qed 𝓛 [] ∵ use0 𝓛 (raw (fact 𝓤 P)) (fact_i 𝓤 P (emp 𝓤) p) $
+      use0 𝓛 (raw (fact 𝓤 (size (layout R) < 2 ^ 63))) (fact_i 𝓤 _ (emp 𝓤) small) $ join ! $
       use0 𝓛 (raw (fact 𝓤 ([] ⊑ []))) (fact_i 𝓤 _ (emp 𝓤) (⊑_refl [])) $ join ! $ use0 𝓛 (raw (fact 𝓤 ([] ⊑ []))) (fact_i 𝓤 _ (emp 𝓤) (⊑_refl [])) $ join ! $
       use0 𝓛 (raw (fact 𝓤 ([] ⊑ K.B.lives))) (fact_i 𝓤 _ (emp 𝓤) K.lasting) $ join ! $ use0 𝓛 (raw (fact 𝓤 ([] ⊑ K.B.lives))) (fact_i 𝓤 _ (emp 𝓤) K.lasting) $ join ! $
       done !
+
+  pub kind_lasts : (K : Kind) (P : Type 0) → P → ent 𝓤 (emp 𝓤) (at_kind K lasting P)
+  kind_lasts K = row_lasts (row K) K K.small
 
 -- An export meets its contract where its calls meet theirs: it makes a payload of an address, lends the heap, and makes a number of the result.
 abbrev pub Trades : (M : Type 1) (exported lent : Ended) → ((𝓤 : Ura M) (𝓛 : Logic 𝓤) → Clauses 𝓤 exported) → ((𝓤 : Ura M) (𝓛 : Logic 𝓤) → Clauses 𝓤 lent)

@@ -13,7 +13,7 @@ use Rattle.rlsf_model.specs.WellFormed.{coverage, itself}
 use Rattle.rlsf_heap.specs.Heap.{HeapView, Identity, IsLent}
 use Rattle.rlsf_heap.specs.Lending.{ChangesOutside, IsLentTo, IsReclaimed}
 use Rattle.rlsf_malloc_calls.specs.Calls.{AddsLent, AppendsLent, IsGivenBack, IsSameBeside, IsSameHeap, front}
-use Rattle.rlsf_malloc_calls.proofs.Outcomes.{added, lent_heap, part_lent}
+use Rattle.rlsf_malloc_calls.proofs.Outcomes.{lent_heap, part_lent}
 use Rattle.rlsf_malloc_calls.proofs.PoolEnds.{inserted-beside, inserted-past}
 
 -- a range of the bytes of p is lent to the heap u, and a call takes the first n of these
@@ -95,7 +95,7 @@ module _ (fllen : ℕ) {start len n : ℕ} {u v w : HeapView} {p : Piece} (t : T
         let step : Inserts fllen u.state r (reply_of n) x.state = subst (λ (s : State). Inserts fllen u.state r (reply_of n) s) (sym f.heap.state)
         (subst (λ (s : State). Inserts fllen s r (reply_of n) w.state) lends.heap.state did) in
         record {
-          adds = added fllen fllen u x r same n step (same-aligns aligns) (same-count count) (same-untouched stays);
+          adds = record { step = step; heap = same; aligns = same-aligns aligns; count = same-count count; untouched = same-untouched stays };
           few = few;
           range = taken-lent;
           front = front_clear fllen start len n u x clear few step;

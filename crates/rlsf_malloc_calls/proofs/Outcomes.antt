@@ -11,7 +11,7 @@ use Rattle.rlsf_base.specs.Space.{Space, range_of}
 use Rattle.rlsf_base.specs.declared.memory.range.Range.{Range}
 use Rattle.rlsf_model.specs.Allocate as machine
 use Rattle.rlsf_model.specs.Callers.{align_at}
-use Rattle.rlsf_model.specs.Insert.{Inserts, IsUntouched}
+use Rattle.rlsf_model.specs.Insert.{IsUntouched}
 use Rattle.rlsf_model.specs.Release.{Deallocates}
 use Rattle.rlsf_model.specs.Sized.{live_count}
 use Rattle.rlsf_model.specs.State.{State}
@@ -22,7 +22,7 @@ use Rattle.rlsf_heap.specs.Frame.{KeepsBytes, KeepsFrame, KeepsHeap}
 use Rattle.rlsf_heap.specs.Replies.{IsAllocated, IsUnchanged}
 use Rattle.rlsf_heap.specs.Settled.{IsSettled}
 use Rattle.rlsf_heap.specs.Thin.{reply_of}
-use Rattle.rlsf_malloc_calls.specs.Calls.{Adds, AllocatesPayload, Frees, IsAllOut, IsFreshHeap, IsOver, IsReady, IsSameBeside, IsSameHeap, RemovesPool}
+use Rattle.rlsf_malloc_calls.specs.Calls.{AllocatesPayload, Frees, IsAllOut, IsFreshHeap, IsOver, IsReady, IsSameBeside, IsSameHeap, RemovesPool}
 
 -- a step leads to the state after
 pub step_of : (fllen sllen : ℕ) (new : HeapView) (P : State → Type 0) → Steps fllen sllen new P → P new.state
@@ -112,17 +112,6 @@ module _ (fllen sllen : ℕ) (old new : HeapView) (same : IsSameHeap old new) wh
     };
     nothing = λ e. absurd (some e);
   }
-
-pub added : (fllen sllen : ℕ) (old new : HeapView) (range : Range) → IsSameBeside range old new → (n : ℕ) → Inserts fllen old.state range (reply_of n) new.state
-    → align_at new.state ≡ align_at old.state → live_count new.state ≡ live_count old.state
-    → ((r : Range) → IsUntouched old.state.chunks r → AreApart range r → IsUntouched new.state.chunks r) → Adds fllen old range.start range.len n new
-added fllen sllen old new range same n step aligns count untouched = record {
-  step = step;
-  heap = same;
-  aligns = aligns;
-  count = count;
-  untouched = untouched;
-}
 
 -- a pool is removed, or it isn't
 pub removed_pool : (fllen sllen : ℕ) (old new : HeapView) (changed r : Range) (b : Bool) → b ≡ true → IsSameBeside changed old new

@@ -17,12 +17,9 @@ use Rattle.rlsf_model.proofs.Cuts.{IsIn-cut_within, coverage-cut, coverage-cut_l
 use Rattle.rlsf_model.proofs.Insertions.{IsWhole-aligned_part}
 use Rattle.rlsf_model.proofs.Untouched.{coverage-with_chunks}
 
-some-is : {m n : ℕ} → Some m ≡ Some n → m ≡ n
-some-is e = cc
-
 reply-is : (n k : ℕ) → reply_of n ≡ Some k → n ≡ k
 reply-is zero k e = absurd (none-some k e)
-reply-is (suc n) k e = some-is e
+reply-is (suc n) k e = cc
 
 reply-none : (n : ℕ) → reply_of n ≡ None → n ≡ 0
 reply-none zero e = refl
