@@ -1,5 +1,5 @@
 -- Exports that lend the heap behind the handle to a call with n numbers, and pass what it returns to the caller.
-use Rattle.rlsf_malloc_calls.proofs.Walking.{◌≡◌, ℕ, [], ◌∷◌, ◌++◌, refl, sym, w64, proved, full_share, ftrue, WpFn, tables, ‵, raw, some, prop, ◌$◌, ◌∵◌, !}
+use Rattle.rlsf_malloc_calls.proofs.Walking.{◌≡◌, ℕ, [], ◌∷◌, ◌++◌, refl, sym, w64, proved, full_share, ftrue, WpFn, tables, ‵, raw, some, prop, ◌$◌, ◌∵◌, ! }
 use Rattle.rlsf_malloc_calls.proofs.Walking.{qed, done, move, keep, drop, join, pick, suffices, group, enter, of_opd, addr, stop, no_more, and_then, returns}
 use Rattle.rlsf_malloc_calls.proofs.Walking.{alloc_all, pass_all, free_all, look_at, get, through, sets, lands_as, yes, uint_vals, uint_Tells, uint_Lawful, Ptr}
 use Rattle.rlsf_malloc_calls.proofs.Walking.{RawPtr, block_ptr, lies_at, rawptr_vals, rawptr_Tells, plain, nothing, owned, on_entry, walk_of, Goes-dropped}

@@ -1,8 +1,8 @@
 -- Exports that lend the heap behind the handle to a call with two numbers, and return what it returns.
-use Rattle.rlsf_malloc_calls.proofs.Walking.{ℕ, List, [], ◌∷◌, ◌++◌, refl, w64, proved, full_share, ftrue, WpFn, fact, tables, ‵, raw, ◌⊛◌, some, prop, ◌$◌, ◌∵◌, ! }
+use Rattle.rlsf_malloc_calls.proofs.Walking.{ℕ, [], ◌∷◌, ◌++◌, refl, w64, proved, full_share, ftrue, WpFn, fact, tables, ‵, raw, ◌⊛◌, some, prop, ◌$◌, ◌∵◌, ! }
 use Rattle.rlsf_malloc_calls.proofs.Walking.{qed, done, move, keep, drop, split, join, fpack, pick, suffices, group, enter, of_opd, addr, stop, no_more, and_then}
 use Rattle.rlsf_malloc_calls.proofs.Walking.{returns, alloc_all, pass_all, free_all, look_at, get, through, sets, lands_as, yes, uint_vals, uint_Tells, Ptr, RawPtr}
-use Rattle.rlsf_malloc_calls.proofs.Walking.{block_ptr, lies_at, rawptr_vals, rawptr_Tells, plain, nothing, owned, heard, on_entry, Stays, walk_of, stay_dropped}
+use Rattle.rlsf_malloc_calls.proofs.Walking.{block_ptr, lies_at, rawptr_vals, rawptr_Tells, plain, nothing, owned, heard, on_entry, walk_of}
 use Rattle.rlsf_malloc_calls.proofs.Walking.{Goes-dropped, ends_at, framed, usize, uint_Makes, Is, Val, Ura, sep, Logic, sem, Model, Closed, Running, Fn, Callee}
 use Rattle.rlsf_malloc_calls.proofs.Walking.{Ty, local, value_local, ty_ptr, ty_int, ty_ref, erased, mut, seq, assign, place, rv_opd, copy, addr_of, deref, call}
 use Rattle.rlsf_malloc_calls.proofs.Walking.{return, RattleType, Ended, Clauses, closing, Meets, Good}

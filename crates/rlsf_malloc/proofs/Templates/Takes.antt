@@ -1,9 +1,9 @@
 -- Exports that take a payload from the caller, and lend the heap behind the handle to a call that consumes it.
-use Rattle.rlsf_malloc_calls.proofs.Walking.{ℕ, List, [], ◌∷◌, ◌++◌, refl, ap, w64, proved, full_share, vunit, WpFn, fact, tables, ‵, raw, ◌⊛◌, some, prop, ◌$◌}
+use Rattle.rlsf_malloc_calls.proofs.Walking.{ℕ, [], ◌∷◌, ◌++◌, refl, ap, w64, proved, full_share, vunit, WpFn, fact, tables, ‵, raw, ◌⊛◌, some, prop, ◌$◌}
 use Rattle.rlsf_malloc_calls.proofs.Walking.{◌∵◌, !, qed, done, move, keep, drop, split, join, fpack, feq_i, pick, suffices, group, enter, of_opd, addr, stop}
 use Rattle.rlsf_malloc_calls.proofs.Walking.{no_more, and_then, returns, alloc_all, pass_all, free_all, look_at, get, through, sets, lands_as, yes, uint_vals}
-use Rattle.rlsf_malloc_calls.proofs.Walking.{uint_Tells, Ptr, RawPtr, block_ptr, lies_at, rawptr_vals, rawptr_Tells, plain, nothing, owned, heard, on_entry, Stays}
-use Rattle.rlsf_malloc_calls.proofs.Walking.{walk_of, stay_dropped, Goes-dropped, ends_at, framed, usize, unit, only, unit_lit, uint_Makes, Is, Val, Ura, sep}
+use Rattle.rlsf_malloc_calls.proofs.Walking.{uint_Tells, Ptr, RawPtr, block_ptr, lies_at, rawptr_vals, rawptr_Tells, plain, nothing, owned, heard, on_entry}
+use Rattle.rlsf_malloc_calls.proofs.Walking.{walk_of, Goes-dropped, ends_at, framed, usize, unit, only, unit_lit, uint_Makes, Is, Val, Ura, sep}
 use Rattle.rlsf_malloc_calls.proofs.Walking.{Logic, sem, Model, Closed, Running, Fn, Callee, Ty, local, value_local, ty_ptr, ty_int, ty_ref, ty_unit, erased, mut}
 use Rattle.rlsf_malloc_calls.proofs.Walking.{seq, assign, place, rv_opd, copy, opd_unit, addr_of, deref, call, return, RattleType, Ended, Clauses, closing}
 use Rattle.rlsf_malloc_calls.proofs.Walking.{Meets, Good}

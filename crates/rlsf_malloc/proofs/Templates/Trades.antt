@@ -1,6 +1,6 @@
 -- Exports that take a payload from the caller, lend the heap behind the handle to a call on it with n numbers more, and pass what it returns to the caller.
-use Rattle.rlsf_malloc_calls.proofs.Walking.{◌≡◌, ℕ, List, [], ◌∷◌, ◌++◌, refl, w64, proved, full_share, WpFn, fact, tables, ‵, raw, ◌⊛◌, some, prop, ◌$◌, ◌∵◌}
-use Rattle.rlsf_malloc_calls.proofs.Walking.{!, qed, done, move, keep, drop, split, join, pick, suffices, group, enter, of_opd, addr, stop, no_more, and_then}
+use Rattle.rlsf_malloc_calls.proofs.Walking.{◌≡◌, ℕ, [], ◌∷◌, ◌++◌, refl, w64, proved, full_share, WpFn, fact, tables, ‵, raw, ◌⊛◌, some, prop, ◌$◌, ◌∵◌}
+use Rattle.rlsf_malloc_calls.proofs.Walking.{ !, qed, done, move, keep, drop, split, join, pick, suffices, group, enter, of_opd, addr, stop, no_more, and_then}
 use Rattle.rlsf_malloc_calls.proofs.Walking.{returns, alloc_all, pass_all, free_all, look_at, get, through, sets, lands_as, yes, uint_vals, uint_Tells}
 use Rattle.rlsf_malloc_calls.proofs.Walking.{uint_Lawful, Ptr, RawPtr, block_ptr, lies_at, rawptr_vals, rawptr_Tells, plain, nothing, owned, heard, on_entry}
 use Rattle.rlsf_malloc_calls.proofs.Walking.{walk_of, Goes-dropped, ends_at, framed, usize, uint_Makes, Ura, Fml, sep, Logic, sem, Fn, Callee, Ty, local}
