@@ -54,7 +54,7 @@ static inline const size_t *block_of(const void *payload) {
 
 /* The length of a payload's block. Any thread may read it while the payload is live. Between two calls the size word is the block's length and
  * 1 (`HasSizes` of crates/rlsf_blocks/specs/InBand.antt), a call on another payload keeps the block (`Allocates`, `Frees` and `ResizesAny` of
- * crates/rlsf_malloc/specs), and the size words that a call writes are those of blocks that it makes, cuts or joins. */
+ * crates/rlsf_malloc_calls/specs), and the size words that a call writes are those of blocks that it makes, cuts or joins. */
 static inline size_t block_len(const void *payload) { return *block_of(payload) & ~(size_t)31; }
 
 /* Maps bytes at a multiple of SEGMENT_ALIGN where the system chooses: it maps more, and unmaps both ends. */

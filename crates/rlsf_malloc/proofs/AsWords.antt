@@ -1,8 +1,9 @@
 -- A heap behind a handle is its words there, and these are the heap again.
-use Rattle.std.proofs.Common.{refl, sym, subst}
+use Rattle.std.proofs.Common.{List, [], ◌∷◌, refl, sym, subst}
 use base.Fraction.{full_share}
 use base.Logic.{ent, ex, via, ex_e, ex_i, never_e}
 use denote.Model.Fields.{OwnsFields, Plain-in, plain_out, view_made, view_owns}
+use denote.RattleType.{RattleType}
 use denote.RawPtr.{Ptr, block_ptr, null_ptr, lies_at}
 use denote.Struct.Declared.{Declared, fields, row as struct_row}
 use denote.Sub.{Sub, Subs, sub-struct, sub_part, sub_refl}
@@ -17,6 +18,12 @@ use Rattle.rlsf_heap.specs.contracts.words.HeapWords.TheInside as words_inside
 use Rattle.rlsf_malloc.proofs.HeapKinds.{Kind, row, words}
 use Rattle.rlsf_malloc.specs.Words.{AreWordsOf}
 use denote.Param.{number, param}
+
+module _ {M : Type 1} {𝓤 : Ura M} (𝓛 : Logic 𝓤) where
+  -- fields are themselves
+  abbrev same : (Rs : List RattleType) → Subs 𝓛 Rs Rs
+  same [] = tt
+  same (R ∷ Rs) = (((λ x. x), sub_refl 𝓛 R), same Rs)
 
 module _ (K : Kind) where
   abbrev F : Declared
@@ -56,47 +63,11 @@ module _ (K : Kind) where
   to_heap d = record { memory = d.memory; live = d.live; lent = d.lent; table = d.table; state = d.state; ledger = d.ledger; bitmaps = d.bitmaps }
 
   module _ {M : Type 1} {𝓤 : Ura M} (𝓛 : Logic 𝓤) where
-    abbrev same_fields : Subs 𝓛 (fields F) (fields G)
-    same_fields = (
-      ((λ x. x), sub_refl 𝓛 _),
-      (
-        ((λ x. x), sub_refl 𝓛 _),
-        (
-          ((λ x. x), sub_refl 𝓛 _),
-          (
-            ((λ x. x), sub_refl 𝓛 _),
-            (
-              ((λ x. x), sub_refl 𝓛 _),
-              (((λ x. x), sub_refl 𝓛 _), (((λ x. x), sub_refl 𝓛 _), tt)),
-            ),
-          ),
-        ),
-      ),
-    )
-
-    abbrev same_words : Subs 𝓛 (fields G) (fields F)
-    same_words = (
-      ((λ x. x), sub_refl 𝓛 _),
-      (
-        ((λ x. x), sub_refl 𝓛 _),
-        (
-          ((λ x. x), sub_refl 𝓛 _),
-          (
-            ((λ x. x), sub_refl 𝓛 _),
-            (
-              ((λ x. x), sub_refl 𝓛 _),
-              (((λ x. x), sub_refl 𝓛 _), (((λ x. x), sub_refl 𝓛 _), tt)),
-            ),
-          ),
-        ),
-      ),
-    )
-
     fields_are_words : Sub 𝓛 (struct_row F) (struct_row G) to_words
-    fields_are_words = sub-struct 𝓛 F G same_fields to_words (λ d. refl)
+    fields_are_words = sub-struct 𝓛 F G (same 𝓛 (fields F)) to_words (λ d. refl)
 
     words_are_fields : Sub 𝓛 (struct_row G) (struct_row F) to_heap
-    words_are_fields = sub-struct 𝓛 G F same_words to_heap (λ d. refl)
+    words_are_fields = sub-struct 𝓛 G F (same 𝓛 (fields G)) to_heap (λ d. refl)
 
     -- the heap that lies at a pointer is its words
     pub as_words : (v : HeapView) (p : Ptr) → ent 𝓤 (sem 𝓛 (lies_at (row K) full_share p v))

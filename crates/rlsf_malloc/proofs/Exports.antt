@@ -2,6 +2,7 @@
 use Rattle.std.proofs.Common.{◌≡◌, ◌%◌, ℕ, refl, w64}
 use mathlib.Core.List.{List, [], ◌∷◌}
 use contract.Running.{Running, tables}
+use denote.Builtin.{unit, usize}
 use denote.Laws.{Is}
 use denote.Memory.{lone}
 use denote.Param.{bounded, number, param}
@@ -40,68 +41,66 @@ use Rattle.rlsf_heap.specs.contracts.loan.Loan as loan
 use Rattle.rlsf_heap.proofs.loan.Loan.TheLaws as loan_laws
 use Rattle.rlsf_heap.proofs.loan.Loan.from_raw.Symbol as loan_from_raw
 use Rattle.rlsf_heap.proofs.loan.Loan.from_raw.Met.{met as loan_from_raw_met}
-use Rattle.rlsf_malloc.specs.contracts.replies.Lending as lending
-use Rattle.rlsf_malloc.proofs.replies.Lending.TheLaws as lending_laws
-use Rattle.rlsf_malloc.proofs.replies.Lending.into_raw.Symbol as lending_into_raw
-use Rattle.rlsf_malloc.proofs.replies.Lending.into_raw.Met.{met as lending_into_raw_met}
+use Rattle.rlsf_malloc_calls.specs.contracts.replies.Lending as lending
+use Rattle.rlsf_malloc_calls.proofs.replies.Lending.TheLaws as lending_laws
+use Rattle.rlsf_malloc_calls.proofs.replies.Lending.into_raw.Symbol as lending_into_raw
+use Rattle.rlsf_malloc_calls.proofs.replies.Lending.into_raw.Met.{met as lending_into_raw_met}
 use Rattle.rlsf_heap.proofs.thin.ThinPayload.TheLaws as payload_laws
 use Rattle.rlsf_heap.proofs.thin.ThinPayload.from_raw.Symbol as from_raw
 use Rattle.rlsf_heap.proofs.thin.ThinPayload.from_raw.Met.{met as from_raw_met}
 use Rattle.rlsf_heap.proofs.thin.ThinPayload.into_raw.Symbol as into_raw
 use Rattle.rlsf_heap.proofs.thin.ThinPayload.into_raw.Met.{met as into_raw_met}
-use Rattle.rlsf_malloc.specs.Blocks.{AreTotals, IsAny, IsCheckOf, IsListing}
-use Rattle.rlsf_malloc.specs.Calls.{AllocatesPayload, AllocatesZeroed, IsFreshHeap, IsOver, IsReady, OwnsLent, aligned_for}
-use Rattle.rlsf_malloc.specs.contracts.replies.Reply as reply
-use Rattle.rlsf_malloc.proofs.replies.Reply.TheLaws as reply_laws
-use Rattle.rlsf_malloc.proofs.replies.Reply.into_raw.Symbol as reply_into_raw
-use Rattle.rlsf_malloc.proofs.replies.Reply.into_raw.Met.{met as reply_into_raw_met}
+use Rattle.rlsf_malloc_calls.specs.Blocks.{AreTotals, IsAny, IsCheckOf, IsListing}
+use Rattle.rlsf_malloc_calls.specs.Calls.{AllocatesPayload, AllocatesZeroed, IsFreshHeap, IsOver, IsReady, OwnsLent, aligned_for}
+use Rattle.rlsf_malloc_calls.specs.contracts.replies.Reply as reply
+use Rattle.rlsf_malloc_calls.proofs.replies.Reply.TheLaws as reply_laws
+use Rattle.rlsf_malloc_calls.proofs.replies.Reply.into_raw.Symbol as reply_into_raw
+use Rattle.rlsf_malloc_calls.proofs.replies.Reply.into_raw.Met.{met as reply_into_raw_met}
 use Rattle.rlsf_malloc.proofs.HeapKinds.{Kind, row}
-use Rattle.rlsf_malloc.proofs.Outcomes.{fresh}
+use Rattle.rlsf_malloc_calls.proofs.Outcomes.{fresh}
 use Rattle.rlsf_malloc.proofs.Payloads as does
 use Rattle.rlsf_malloc.proofs.Payloads.{loans, payloads}
 use Rattle.rlsf_malloc.proofs.Templates.Begins
 use Rattle.rlsf_malloc.proofs.Templates.Checks
 use Rattle.rlsf_malloc.proofs.Templates.Ends
-use Rattle.rlsf_malloc.proofs.Templates.Gives1
-use Rattle.rlsf_malloc.proofs.Templates.Gives2
+use Rattle.rlsf_malloc.proofs.Templates.Gives
 use Rattle.rlsf_malloc.proofs.Templates.Lends2
 use Rattle.rlsf_malloc.proofs.Templates.Lists
+use Rattle.rlsf_malloc.proofs.Templates.Signatures.{exported}
 use Rattle.rlsf_malloc.proofs.Templates.Takes
-use Rattle.rlsf_malloc.proofs.Templates.Trades0
-use Rattle.rlsf_malloc.proofs.Templates.Trades1
-use Rattle.rlsf_malloc.proofs.Templates.Trades2
-use Rattle.rlsf_malloc.proofs.calls.add.Symbol as add
-use Rattle.rlsf_malloc.proofs.calls.add.Met.{met as add_met}
-use Rattle.rlsf_malloc.proofs.calls.append.Symbol as append
-use Rattle.rlsf_malloc.proofs.calls.append.Met.{met as append_met}
-use Rattle.rlsf_malloc.proofs.calls.malloc.Symbol as malloc
-use Rattle.rlsf_malloc.proofs.calls.malloc.Met.{met as malloc_met}
-use Rattle.rlsf_malloc.proofs.calls.allocate.Symbol as allocate
-use Rattle.rlsf_malloc.proofs.calls.allocate.Met.{met as allocate_met}
-use Rattle.rlsf_malloc.proofs.calls.allocate_zeroed.Symbol as allocate_zeroed
-use Rattle.rlsf_malloc.proofs.calls.allocate_zeroed.Met.{met as allocate_zeroed_met}
-use Rattle.rlsf_malloc.proofs.calls.free.Symbol as free
-use Rattle.rlsf_malloc.proofs.calls.free.Met.{met as free_met}
-use Rattle.rlsf_malloc.proofs.calls.usable.Symbol as usable
-use Rattle.rlsf_malloc.proofs.calls.usable.Met.{met as usable_met}
-use Rattle.rlsf_malloc.proofs.resizing.resize_any.Symbol as resize_any
-use Rattle.rlsf_malloc.proofs.resizing.resize_any.Met.{met as resize_any_met}
-use Rattle.rlsf_malloc.proofs.resizing.resize_aligned.Symbol as resize_aligned
-use Rattle.rlsf_malloc.proofs.resizing.resize_aligned.Met.{met as resize_aligned_met}
-use Rattle.rlsf_malloc.proofs.resizing.resize_in_place.Symbol as resize_in_place
-use Rattle.rlsf_malloc.proofs.resizing.resize_in_place.Met.{met as resize_in_place_met}
-use Rattle.rlsf_malloc.proofs.pools.totals_in.Symbol as totals_in
-use Rattle.rlsf_malloc.proofs.pools.totals_in.Met.{met as totals_in_met}
-use Rattle.rlsf_malloc.proofs.pools.list_in.Symbol as list_in
-use Rattle.rlsf_malloc.proofs.pools.list_in.Met.{met as list_in_met}
-use Rattle.rlsf_malloc.proofs.pools.check_in.Symbol as check_in
-use Rattle.rlsf_malloc.proofs.pools.check_in.Met.{met as check_in_met}
-use Rattle.rlsf_malloc.proofs.pools.remove_in.Symbol as remove_in
-use Rattle.rlsf_malloc.proofs.pools.remove_in.Met.{met as remove_in_met}
-use Rattle.rlsf_malloc.proofs.calls.over.Symbol as over
-use Rattle.rlsf_malloc.proofs.calls.over.Met.{met as over_met}
-use Rattle.rlsf_malloc.proofs.calls.parts.Symbol as parts
-use Rattle.rlsf_malloc.proofs.calls.parts.Met.{met as parts_met}
+use Rattle.rlsf_malloc.proofs.Templates.Trades
+use Rattle.rlsf_malloc_calls.proofs.calls.add.Symbol as add
+use Rattle.rlsf_malloc_calls.proofs.calls.add.Met.{met as add_met}
+use Rattle.rlsf_malloc_calls.proofs.calls.append.Symbol as append
+use Rattle.rlsf_malloc_calls.proofs.calls.append.Met.{met as append_met}
+use Rattle.rlsf_malloc_calls.proofs.calls.malloc.Symbol as malloc
+use Rattle.rlsf_malloc_calls.proofs.calls.malloc.Met.{met as malloc_met}
+use Rattle.rlsf_malloc_calls.proofs.calls.allocate.Symbol as allocate
+use Rattle.rlsf_malloc_calls.proofs.calls.allocate.Met.{met as allocate_met}
+use Rattle.rlsf_malloc_calls.proofs.calls.allocate_zeroed.Symbol as allocate_zeroed
+use Rattle.rlsf_malloc_calls.proofs.calls.allocate_zeroed.Met.{met as allocate_zeroed_met}
+use Rattle.rlsf_malloc_calls.proofs.calls.free.Symbol as free
+use Rattle.rlsf_malloc_calls.proofs.calls.free.Met.{met as free_met}
+use Rattle.rlsf_malloc_calls.proofs.calls.usable.Symbol as usable
+use Rattle.rlsf_malloc_calls.proofs.calls.usable.Met.{met as usable_met}
+use Rattle.rlsf_malloc_calls.proofs.resizing.resize_any.Symbol as resize_any
+use Rattle.rlsf_malloc_calls.proofs.resizing.resize_any.Met.{met as resize_any_met}
+use Rattle.rlsf_malloc_calls.proofs.resizing.resize_aligned.Symbol as resize_aligned
+use Rattle.rlsf_malloc_calls.proofs.resizing.resize_aligned.Met.{met as resize_aligned_met}
+use Rattle.rlsf_malloc_calls.proofs.resizing.resize_in_place.Symbol as resize_in_place
+use Rattle.rlsf_malloc_calls.proofs.resizing.resize_in_place.Met.{met as resize_in_place_met}
+use Rattle.rlsf_malloc_calls.proofs.pools.totals_in.Symbol as totals_in
+use Rattle.rlsf_malloc_calls.proofs.pools.totals_in.Met.{met as totals_in_met}
+use Rattle.rlsf_malloc_calls.proofs.pools.list_in.Symbol as list_in
+use Rattle.rlsf_malloc_calls.proofs.pools.list_in.Met.{met as list_in_met}
+use Rattle.rlsf_malloc_calls.proofs.pools.check_in.Symbol as check_in
+use Rattle.rlsf_malloc_calls.proofs.pools.check_in.Met.{met as check_in_met}
+use Rattle.rlsf_malloc_calls.proofs.pools.remove_in.Symbol as remove_in
+use Rattle.rlsf_malloc_calls.proofs.pools.remove_in.Met.{met as remove_in_met}
+use Rattle.rlsf_malloc_calls.proofs.calls.over.Symbol as over
+use Rattle.rlsf_malloc_calls.proofs.calls.over.Met.{met as over_met}
+use Rattle.rlsf_malloc_calls.proofs.calls.parts.Symbol as parts
+use Rattle.rlsf_malloc_calls.proofs.calls.parts.Met.{met as parts_met}
 
 module _ (K : Kind) {M : Type 1} (𝓤 : Ura M) (𝓛 : Logic 𝓤) (𝓜 : Model 𝓤 𝓛.H) (𝓡 : Running 𝓤 𝓛.H 𝓜) where
   -- the type arguments of the generic calls, and what these meet at them
@@ -167,53 +166,53 @@ module _ (K : Kind) {M : Type 1} (𝓤 : Ura M) (𝓛 : Logic 𝓤) (𝓜 : Mode
       key (parts.name args) (λ v w is. ((row_laws.lawful 𝓛).typed v _ is).0) code (at_kind (parts_met 𝓤 𝓛 𝓜 𝓡 has_parts)) (release_met 𝓤 𝓛 𝓜 𝓡 has_release)
 
   pub mallocs : Wired 𝓡.env malloc.code → Wired 𝓡.env into_raw.code → (σ τ : Ty) (key : Callee)
-      → Proved Gives1.exported (Gives1.outer K (λ v n p w. AllocatesPayload K.classes v n 16 p w) 𝓛) key
-      (Gives1.function σ τ Payload (malloc.name args) into_raw.name)
-  mallocs calls passes σ τ key code = Gives1.exports K (λ v n p w. AllocatesPayload K.classes v n 16 p w) 𝓤 𝓛 𝓜 𝓡 σ τ
+      → Proved (exported 1 usize) (Gives.outer 1 K (λ v ns p w. AllocatesPayload K.classes v ns.0 16 p w) 𝓛) key
+      (Gives.function 1 σ τ Payload (malloc.name args) into_raw.name)
+  mallocs calls passes σ τ key code = Gives.exports1 K (λ v ns p w. AllocatesPayload K.classes v ns.0 16 p w) 𝓤 𝓛 𝓜 𝓡 σ τ
       key (malloc.name args) into_raw.name code (at_kind (malloc_met 𝓤 𝓛 𝓜 𝓡 calls)) (into_raw_met 𝓤 𝓛 𝓜 𝓡 passes)
 
   pub allocates : Wired 𝓡.env allocate.code → Wired 𝓡.env into_raw.code → (σ τ : Ty) (key : Callee)
-      → Proved Gives2.exported (Gives2.outer K (λ v n k p w. AllocatesPayload K.classes v n (aligned_for k) p w) 𝓛) key
-      (Gives2.function σ τ Payload (allocate.name args) into_raw.name)
-  allocates calls passes σ τ key code = Gives2.exports K (λ v n k p w. AllocatesPayload K.classes v n (aligned_for k) p w) 𝓤 𝓛 𝓜 𝓡 σ τ
+      → Proved (exported 2 usize) (Gives.outer 2 K (λ v ns p w. AllocatesPayload K.classes v ns.0 (aligned_for ns.1.0) p w) 𝓛) key
+      (Gives.function 2 σ τ Payload (allocate.name args) into_raw.name)
+  allocates calls passes σ τ key code = Gives.exports2 K (λ v ns p w. AllocatesPayload K.classes v ns.0 (aligned_for ns.1.0) p w) 𝓤 𝓛 𝓜 𝓡 σ τ
       key (allocate.name args) into_raw.name code (at_kind (allocate_met 𝓤 𝓛 𝓜 𝓡 calls)) (into_raw_met 𝓤 𝓛 𝓜 𝓡 passes)
 
   pub allocates_zeroed : Wired 𝓡.env allocate_zeroed.code → Wired 𝓡.env into_raw.code → (σ τ : Ty) (key : Callee)
-      → Proved Gives2.exported (Gives2.outer K (AllocatesZeroed K.classes) 𝓛) key
-      (Gives2.function σ τ Payload (allocate_zeroed.name args) into_raw.name)
-  allocates_zeroed calls passes σ τ key code = Gives2.exports K (AllocatesZeroed K.classes) 𝓤 𝓛 𝓜 𝓡 σ τ
+      → Proved (exported 2 usize) (Gives.outer 2 K (λ v ns p w. AllocatesZeroed K.classes v ns.0 ns.1.0 p w) 𝓛) key
+      (Gives.function 2 σ τ Payload (allocate_zeroed.name args) into_raw.name)
+  allocates_zeroed calls passes σ τ key code = Gives.exports2 K (λ v ns p w. AllocatesZeroed K.classes v ns.0 ns.1.0 p w) 𝓤 𝓛 𝓜 𝓡 σ τ
       key (allocate_zeroed.name args) into_raw.name code (at_kind (allocate_zeroed_met 𝓤 𝓛 𝓜 𝓡 calls)) (into_raw_met 𝓤 𝓛 𝓜 𝓡 passes)
 
   pub frees : Wired 𝓡.env from_raw.code → Wired 𝓡.env free.code → (σ τ : Ty) (key : Callee)
-      → Proved Takes.exported (Takes.outer K payloads (does.frees K) 𝓛) key (Takes.function σ τ Payload from_raw.name (free.name args))
+      → Proved (exported 1 unit) (Takes.outer K payloads (does.frees K) 𝓛) key (Takes.function σ τ Payload from_raw.name (free.name args))
   frees takes calls σ τ key code = Takes.exports K payloads (does.frees K) 𝓤 𝓛 𝓜 𝓡 σ τ Payload key from_raw.name (free.name args) payload_typed code
       (from_raw_met 𝓤 𝓛 𝓜 𝓡 takes) (at_kind (free_met 𝓤 𝓛 𝓜 𝓡 calls))
 
   pub measures : Wired 𝓡.env from_raw.code → Wired 𝓡.env usable.code → Wired 𝓡.env reply_into_raw.code → (σ τ : Ty) (key : Callee)
-      → Proved Trades0.exported (Trades0.outer K payloads (does.measures K) 𝓛) key
-      (Trades0.function σ τ Payload Reply from_raw.name (usable.name args) reply_into_raw.name)
-  measures takes calls passes σ τ key code = Trades0.exports K payloads (does.measures K) 𝓤 𝓛 𝓜 𝓡 σ τ Payload Reply
+      → Proved (exported 1 usize) (Trades.outer 0 K payloads (does.measures K) 𝓛) key
+      (Trades.function 0 σ τ Payload Reply from_raw.name (usable.name args) reply_into_raw.name)
+  measures takes calls passes σ τ key code = Trades.exports0 K payloads (does.measures K) 𝓤 𝓛 𝓜 𝓡 σ τ Payload Reply
       key from_raw.name (usable.name args) reply_into_raw.name payload_typed reply_typed code
       (from_raw_met 𝓤 𝓛 𝓜 𝓡 takes) (at_kind (usable_met 𝓤 𝓛 𝓜 𝓡 calls)) (reply_into_raw_met 𝓤 𝓛 𝓜 𝓡 passes)
 
   pub reallocates : Wired 𝓡.env from_raw.code → Wired 𝓡.env resize_any.code → Wired 𝓡.env reply_into_raw.code → (σ τ : Ty) (key : Callee)
-      → Proved Trades1.exported (Trades1.outer K payloads (does.reallocates K) 𝓛) key
-      (Trades1.function σ τ Payload Reply from_raw.name (resize_any.name args) reply_into_raw.name)
-  reallocates takes calls passes σ τ key code = Trades1.exports K payloads (does.reallocates K) 𝓤 𝓛 𝓜 𝓡 σ τ Payload Reply
+      → Proved (exported 2 usize) (Trades.outer 1 K payloads (does.reallocates K) 𝓛) key
+      (Trades.function 1 σ τ Payload Reply from_raw.name (resize_any.name args) reply_into_raw.name)
+  reallocates takes calls passes σ τ key code = Trades.exports1 K payloads (does.reallocates K) 𝓤 𝓛 𝓜 𝓡 σ τ Payload Reply
       key from_raw.name (resize_any.name args) reply_into_raw.name payload_typed reply_typed code
       (from_raw_met 𝓤 𝓛 𝓜 𝓡 takes) (at_kind (resize_any_met 𝓤 𝓛 𝓜 𝓡 calls)) (reply_into_raw_met 𝓤 𝓛 𝓜 𝓡 passes)
 
   pub reallocates_in_place : Wired 𝓡.env from_raw.code → Wired 𝓡.env resize_in_place.code → Wired 𝓡.env reply_into_raw.code → (σ τ : Ty) (key : Callee)
-      → Proved Trades1.exported (Trades1.outer K payloads (does.reallocates_in_place K) 𝓛) key
-      (Trades1.function σ τ Payload Reply from_raw.name (resize_in_place.name args) reply_into_raw.name)
-  reallocates_in_place takes calls passes σ τ key code = Trades1.exports K payloads (does.reallocates_in_place K) 𝓤 𝓛 𝓜 𝓡 σ τ Payload Reply
+      → Proved (exported 2 usize) (Trades.outer 1 K payloads (does.reallocates_in_place K) 𝓛) key
+      (Trades.function 1 σ τ Payload Reply from_raw.name (resize_in_place.name args) reply_into_raw.name)
+  reallocates_in_place takes calls passes σ τ key code = Trades.exports1 K payloads (does.reallocates_in_place K) 𝓤 𝓛 𝓜 𝓡 σ τ Payload Reply
       key from_raw.name (resize_in_place.name args) reply_into_raw.name payload_typed reply_typed code
       (from_raw_met 𝓤 𝓛 𝓜 𝓡 takes) (at_kind (resize_in_place_met 𝓤 𝓛 𝓜 𝓡 calls)) (reply_into_raw_met 𝓤 𝓛 𝓜 𝓡 passes)
 
   pub reallocates_aligned : Wired 𝓡.env from_raw.code → Wired 𝓡.env resize_aligned.code → Wired 𝓡.env reply_into_raw.code → (σ τ : Ty) (key : Callee)
-      → Proved Trades2.exported (Trades2.outer K payloads (does.reallocates_aligned K) 𝓛) key
-      (Trades2.function σ τ Payload Reply from_raw.name (resize_aligned.name args) reply_into_raw.name)
-  reallocates_aligned takes calls passes σ τ key code = Trades2.exports K payloads (does.reallocates_aligned K) 𝓤 𝓛 𝓜 𝓡 σ τ Payload Reply
+      → Proved (exported 3 usize) (Trades.outer 2 K payloads (does.reallocates_aligned K) 𝓛) key
+      (Trades.function 2 σ τ Payload Reply from_raw.name (resize_aligned.name args) reply_into_raw.name)
+  reallocates_aligned takes calls passes σ τ key code = Trades.exports2 K payloads (does.reallocates_aligned K) 𝓤 𝓛 𝓜 𝓡 σ τ Payload Reply
       key from_raw.name (resize_aligned.name args) reply_into_raw.name payload_typed reply_typed code
       (from_raw_met 𝓤 𝓛 𝓜 𝓡 takes) (at_kind (resize_aligned_met 𝓤 𝓛 𝓜 𝓡 calls)) (reply_into_raw_met 𝓤 𝓛 𝓜 𝓡 passes)
 
@@ -234,16 +233,16 @@ module _ (K : Kind) {M : Type 1} (𝓤 : Ura M) (𝓛 : Logic 𝓤) (𝓜 : Mode
   IsListed v n k from was r now w = IsListing v (range_at n k) from was r now × (w ≡ v)
 
   pub adds : Wired 𝓡.env loan_from_raw.code → Wired 𝓡.env add.code → Wired 𝓡.env lending_into_raw.code → (σ τ : Ty) (key : Callee)
-      → Proved Trades1.exported (Trades1.outer K loans (does.adds K) 𝓛) key
-      (Trades1.function σ τ Loan Lending loan_from_raw.name (add.name args) lending_into_raw.name)
-  adds takes calls passes σ τ key code = Trades1.exports K loans (does.adds K) 𝓤 𝓛 𝓜 𝓡 σ τ Loan Lending
+      → Proved (exported 2 usize) (Trades.outer 1 K loans (does.adds K) 𝓛) key
+      (Trades.function 1 σ τ Loan Lending loan_from_raw.name (add.name args) lending_into_raw.name)
+  adds takes calls passes σ τ key code = Trades.exports1 K loans (does.adds K) 𝓤 𝓛 𝓜 𝓡 σ τ Loan Lending
       key loan_from_raw.name (add.name args) lending_into_raw.name loan_typed lending_typed code
       (loan_from_raw_met 𝓤 𝓛 𝓜 𝓡 takes) (at_kind (add_met 𝓤 𝓛 𝓜 𝓡 calls)) (lending_into_raw_met 𝓤 𝓛 𝓜 𝓡 passes)
 
   pub appends : Wired 𝓡.env loan_from_raw.code → Wired 𝓡.env append.code → Wired 𝓡.env lending_into_raw.code → (σ τ : Ty) (key : Callee)
-      → Proved Trades1.exported (Trades1.outer K loans (does.appends K) 𝓛) key
-      (Trades1.function σ τ Loan Lending loan_from_raw.name (append.name args) lending_into_raw.name)
-  appends takes calls passes σ τ key code = Trades1.exports K loans (does.appends K) 𝓤 𝓛 𝓜 𝓡 σ τ Loan Lending
+      → Proved (exported 2 usize) (Trades.outer 1 K loans (does.appends K) 𝓛) key
+      (Trades.function 1 σ τ Loan Lending loan_from_raw.name (append.name args) lending_into_raw.name)
+  appends takes calls passes σ τ key code = Trades.exports1 K loans (does.appends K) 𝓤 𝓛 𝓜 𝓡 σ τ Loan Lending
       key loan_from_raw.name (append.name args) lending_into_raw.name loan_typed lending_typed code
       (loan_from_raw_met 𝓤 𝓛 𝓜 𝓡 takes) (at_kind (append_met 𝓤 𝓛 𝓜 𝓡 calls)) (lending_into_raw_met 𝓤 𝓛 𝓜 𝓡 passes)
 
@@ -252,14 +251,14 @@ module _ (K : Kind) {M : Type 1} (𝓤 : Ura M) (𝓛 : Logic 𝓤) (𝓜 : Mode
   checks calls σ τ key code = Checks.exports K IsAny CanCheck IsChecked 𝓤 𝓛 𝓜 𝓡 σ τ key (check_in.name args) code (at_kind (check_in_met 𝓤 𝓛 𝓜 𝓡 calls))
 
   pub removes : Wired 𝓡.env loan_from_raw.code → Wired 𝓡.env remove_in.code → Wired 𝓡.env lending_into_raw.code → (σ τ : Ty) (key : Callee)
-      → Proved Trades1.exported (Trades1.outer K loans (does.removes K) 𝓛) key
-      (Trades1.function σ τ Loan Lending loan_from_raw.name (remove_in.name args) lending_into_raw.name)
-  removes takes calls passes σ τ key code = Trades1.exports K loans (does.removes K) 𝓤 𝓛 𝓜 𝓡 σ τ Loan Lending
+      → Proved (exported 2 usize) (Trades.outer 1 K loans (does.removes K) 𝓛) key
+      (Trades.function 1 σ τ Loan Lending loan_from_raw.name (remove_in.name args) lending_into_raw.name)
+  removes takes calls passes σ τ key code = Trades.exports1 K loans (does.removes K) 𝓤 𝓛 𝓜 𝓡 σ τ Loan Lending
       key loan_from_raw.name (remove_in.name args) lending_into_raw.name loan_typed lending_typed code
       (loan_from_raw_met 𝓤 𝓛 𝓜 𝓡 takes) (at_kind (remove_in_met 𝓤 𝓛 𝓜 𝓡 calls)) (lending_into_raw_met 𝓤 𝓛 𝓜 𝓡 passes)
 
   pub totals : Wired 𝓡.env totals_in.code → (σ τ : Ty) (key : Callee)
-      → Proved (Lends2.exported totals_type.the_row) (Lends2.outer K IsReady totals_type.the_row IsRowOf HasTotals 𝓛) key
+      → Proved (exported 2 totals_type.the_row) (Lends2.outer K IsReady totals_type.the_row IsRowOf HasTotals 𝓛) key
       (Lends2.function σ τ (lone totals_type.the_row.mir) (totals_in.name args))
   totals calls σ τ key code = Lends2.exports K IsReady totals_type.the_row IsRowOf HasTotals 𝓤 𝓛 𝓜 𝓡 σ τ (lone totals_type.the_row.mir) key (totals_in.name args)
       (λ r v is. ((totals_laws.the_row_laws.lawful 𝓛).typed r _ is).0) code (at_kind (totals_in_met 𝓤 𝓛 𝓜 𝓡 calls))

@@ -63,56 +63,34 @@ large_32_valid = search rules
 pub small_valid : IsValid impl16.ghosts.width impl16.ghosts.width 12 16
 small_valid = search rules
 
-abbrev pub large : Kind
-large = record {
+-- 64 rows of so many classes
+abbrev of_64_rows : (classes : ℕ) → Fits w64 classes → IsValid impl64.ghosts.width impl64.ghosts.width 64 classes
+    → size (layout (the_row (param 0 u64) (param 1 u64) (param 2 (number 64)) (param 3 (number classes)) impl64.ghosts impl64.ghosts)) < 2 ^ 63
+    → size (layout (words_row (param 0 u64) (param 1 u64) (param 2 (number 64)) (param 3 (number classes)) impl64.ghosts impl64.ghosts)) < 2 ^ 63 → Kind
+of_64_rows classes fit valid small words_small = record {
   B = u64;
   rows = 64;
-  classes = 64;
+  classes = classes;
   ghosts = impl64.ghosts;
   dict = impl64.dict;
   laws = of_field u64-field u64-laws refl (copy_shared u64-field u64-copy);
   rows_fit = record { fits = lit< tt };
-  classes_fit = record { fits = lit< tt };
+  classes_fit = fit;
   lasting = ⊑_refl [];
   met = λ M 𝓤 𝓛 𝓜 𝓡. met64 𝓡.env M 𝓤 𝓛 𝓜 𝓡;
-  valid = large_valid;
-  small = lit< tt;
-  words_small = lit< tt;
+  valid = valid;
+  small = small;
+  words_small = words_small;
 }
+
+abbrev pub large : Kind
+large = of_64_rows 64 (record { fits = lit< tt }) large_valid (lit< tt) (lit< tt)
 
 abbrev pub large_8 : Kind
-large_8 = record {
-  B = u64;
-  rows = 64;
-  classes = 8;
-  ghosts = impl64.ghosts;
-  dict = impl64.dict;
-  laws = of_field u64-field u64-laws refl (copy_shared u64-field u64-copy);
-  rows_fit = record { fits = lit< tt };
-  classes_fit = record { fits = lit< tt };
-  lasting = ⊑_refl [];
-  met = λ M 𝓤 𝓛 𝓜 𝓡. met64 𝓡.env M 𝓤 𝓛 𝓜 𝓡;
-  valid = large_8_valid;
-  small = lit< tt;
-  words_small = lit< tt;
-}
+large_8 = of_64_rows 8 (record { fits = lit< tt }) large_8_valid (lit< tt) (lit< tt)
 
 abbrev pub large_32 : Kind
-large_32 = record {
-  B = u64;
-  rows = 64;
-  classes = 32;
-  ghosts = impl64.ghosts;
-  dict = impl64.dict;
-  laws = of_field u64-field u64-laws refl (copy_shared u64-field u64-copy);
-  rows_fit = record { fits = lit< tt };
-  classes_fit = record { fits = lit< tt };
-  lasting = ⊑_refl [];
-  met = λ M 𝓤 𝓛 𝓜 𝓡. met64 𝓡.env M 𝓤 𝓛 𝓜 𝓡;
-  valid = large_32_valid;
-  small = lit< tt;
-  words_small = lit< tt;
-}
+large_32 = of_64_rows 32 (record { fits = lit< tt }) large_32_valid (lit< tt) (lit< tt)
 
 abbrev pub small : Kind
 small = record {

@@ -6,17 +6,16 @@ use Rattle.rlsf_heap.specs.contracts.thin.ThinPayload as thin
 use Rattle.rlsf_base.specs.Piece.{Piece}
 use Rattle.rlsf_heap.specs.Loans.{owns_loan}
 use Rattle.rlsf_heap.specs.contracts.loan.Loan as loan
-use Rattle.rlsf_malloc.specs.contracts.replies.Lending as lending
-use Rattle.rlsf_malloc.specs.Calls.{AddsLent, AppendsLent, CanAppend, CanLend, CanRemove, Frees, IsPayloadAt, IsReady, IsUsableSize, RemovesLent, aligned_for}
-use Rattle.rlsf_malloc.specs.Replies.{reply_number}
-use Rattle.rlsf_malloc.specs.Resizing.{ResizesAligned, ResizesAny, ResizesInPlace}
-use Rattle.rlsf_malloc.specs.contracts.replies.Reply as reply
+use Rattle.rlsf_malloc_calls.specs.contracts.replies.Lending as lending
+use Rattle.rlsf_malloc_calls.specs.Calls.{AddsLent, AppendsLent, CanAppend, CanLend, CanRemove, Frees, IsPayloadAt, IsReady, IsUsableSize, RemovesLent, aligned_for}
+use Rattle.rlsf_malloc_calls.specs.Replies.{reply_number}
+use Rattle.rlsf_malloc_calls.specs.Resizing.{ResizesAligned, ResizesAny, ResizesInPlace}
+use Rattle.rlsf_malloc_calls.specs.contracts.replies.Reply as reply
 use Rattle.rlsf_malloc.proofs.HeapKinds.{Kind, row}
 use Rattle.rlsf_malloc.proofs.Steps.{Payloads}
+use Rattle.rlsf_malloc.proofs.Templates.Signatures.{Numbers}
 use Rattle.rlsf_malloc.proofs.Templates.Takes.{Export as Takes}
-use Rattle.rlsf_malloc.proofs.Templates.Trades0.{Export as Trades0}
-use Rattle.rlsf_malloc.proofs.Templates.Trades1.{Export as Trades1}
-use Rattle.rlsf_malloc.proofs.Templates.Trades2.{Export as Trades2}
+use Rattle.rlsf_malloc.proofs.Templates.Trades.{Export as Trades}
 
 abbrev pub payloads : Payloads
 payloads = record { Q = thin.the_row; D = PayloadView; owns = owns_reply; Makes = λ x d q. (q.addr ≡ x) × (q.of ≡ d) }
@@ -48,94 +47,64 @@ module _ (K : Kind) where
     packs = λ v d x q w ready known made did. subst (λ (p : PayloadView). Frees v x p w) made.1 did;
   }
 
-  abbrev pub measures : Trades0 (row K) payloads
+  abbrev pub measures : Trades 0 (row K) payloads
   measures = record {
     S = λ v. IsReady v;
     Z = reply.the_row;
     num = λ z. z.number;
     gives = λ z. owns_reply z.payload.of;
-    Fact = λ v d x. IsPayloadAt v x d;
-    Asks = λ v x q. IsReady v × IsPayloadAt v x q.of;
-    Post = λ v x q z w. IsUsableSize v x q.of z.number z.payload.of w;
-    Outer = λ v d x r w p. IsUsableSize v x d r p w;
-    asks = λ v d x q ready known made. (ready, subst (λ (p : PayloadView). IsPayloadAt v x p) (sym made.1) known);
-    packs = λ v d x q z w ready known made did. (z.payload.of, subst (λ (p : PayloadView). IsUsableSize v x p z.number z.payload.of w) made.1 did, refl);
+    Fact = λ v d x ns. IsPayloadAt v x d;
+    Asks = λ v x q ns. IsReady v × IsPayloadAt v x q.of;
+    Post = λ v x q ns z w. IsUsableSize v x q.of z.number z.payload.of w;
+    Outer = λ v d x ns r w p. IsUsableSize v x d r p w;
+    asks = λ v d x ns q ready known made. (ready, subst (λ (p : PayloadView). IsPayloadAt v x p) (sym made.1) known);
+    packs = λ v d x ns q z w ready known made did. (z.payload.of, subst (λ (p : PayloadView). IsUsableSize v x p z.number z.payload.of w) made.1 did, refl);
   }
 
-  -- a reallocation of a payload whose alignment isn't known: `Did` says what it does
-  abbrev resizes : (HeapView → ℕ → PayloadView → ℕ → ℕ → PayloadView → HeapView → Type 0) → Trades1 (row K) payloads
-  resizes Did = record {
+  -- a reallocation of a payload: `Such` says which alignments it may have, and `Did` what is done
+  abbrev resizes : (n : ℕ) → (Numbers n → ℕ → Type 0) → (HeapView → ℕ → PayloadView → Numbers n → ℕ → PayloadView → HeapView → Type 0) → Trades n (row K) payloads
+  resizes n Such Did = record {
     S = λ v. IsReady v;
     Z = reply.the_row;
     num = λ z. reply_number z;
     gives = λ z. owns_reply z.payload.of;
-    Fact = λ v d x n. IsAtSuch (λ align. 16 ≤ align) v x d;
-    Asks = λ v x q n. CanResize (λ align. 16 ≤ align) v x q;
-    Post = λ v x q n z w. Did v x q.of n (reply_number z) z.payload.of w;
-    Outer = λ v d x n r w p. Did v x d n r p w;
-    asks = λ v d x n q ready known made. can_resize (λ align. 16 ≤ align) v d x q ready known made;
-    packs = λ v d x n q z w ready known made did. (z.payload.of, subst (λ (p : PayloadView). Did v x p n (reply_number z) z.payload.of w) made.1 did, refl);
+    Fact = λ v d x ns. IsAtSuch (Such ns) v x d;
+    Asks = λ v x q ns. CanResize (Such ns) v x q;
+    Post = λ v x q ns z w. Did v x q.of ns (reply_number z) z.payload.of w;
+    Outer = λ v d x ns r w p. Did v x d ns r p w;
+    asks = λ v d x ns q ready known made. can_resize (Such ns) v d x q ready known made;
+    packs = λ v d x ns q z w ready known made did. (z.payload.of, subst (λ (p : PayloadView). Did v x p ns (reply_number z) z.payload.of w) made.1 did, refl);
   }
 
-  abbrev pub reallocates : Trades1 (row K) payloads
-  reallocates = resizes (ResizesAny K.classes)
+  abbrev pub reallocates : Trades 1 (row K) payloads
+  reallocates = resizes 1 (λ ns align. 16 ≤ align) (λ v x p ns. ResizesAny K.classes v x p ns.0)
 
-  abbrev pub reallocates_in_place : Trades1 (row K) payloads
-  reallocates_in_place = resizes ResizesInPlace
+  abbrev pub reallocates_in_place : Trades 1 (row K) payloads
+  reallocates_in_place = resizes 1 (λ ns align. 16 ≤ align) (λ v x p ns. ResizesInPlace v x p ns.0)
 
-  abbrev pub reallocates_aligned : Trades2 (row K) payloads
-  reallocates_aligned = record {
-    S = λ v. IsReady v;
-    Z = reply.the_row;
-    num = λ z. reply_number z;
-    gives = λ z. owns_reply z.payload.of;
-    Fact = λ v d x n k. IsAtSuch (λ align. align ≡ aligned_for k) v x d;
-    Asks = λ v x q n k. CanResize (λ align. align ≡ aligned_for k) v x q;
-    Post = λ v x q n k z w. ResizesAligned K.classes v x q.of n k (reply_number z) z.payload.of w;
-    Outer = λ v d x n k r w p. ResizesAligned K.classes v x d n k r p w;
-    asks = λ v d x n k q ready known made. can_resize (λ align. align ≡ aligned_for k) v d x q ready known made;
-    packs = λ v d x n k q z w ready known made did.
-        (z.payload.of, subst (λ (p : PayloadView). ResizesAligned K.classes v x p n k (reply_number z) z.payload.of w) made.1 did, refl);
-  }
+  abbrev pub reallocates_aligned : Trades 2 (row K) payloads
+  reallocates_aligned = resizes 2 (λ ns align. align ≡ aligned_for ns.1.0) (λ v x p ns. ResizesAligned K.classes v x p ns.0 ns.1.0)
 
-  abbrev pub adds : Trades1 (row K) loans
-  adds = record {
+  -- what lends bytes to a heap, or asks for them: `Can` says when a call may be made, and `Did` what it does
+  abbrev lends : (HeapView → ℕ → ℕ → Piece → Type 0) → (HeapView → ℕ → ℕ → ℕ → Piece → HeapView → Type 0) → Trades 1 (row K) loans
+  lends Can Did = record {
     S = λ v. IsReady v;
     Z = lending.the_row;
     num = λ z. z.number;
     gives = λ z. owns_loan z.loan.of;
-    Fact = λ v d x n. CanLend v x n d;
-    Asks = λ v x q n. IsReady v × CanLend v x n q.of;
-    Post = λ v x q n z w. AddsLent K.rows v x n z.number z.loan.of w;
-    Outer = λ v d x n r w p. AddsLent K.rows v x n r p w;
-    asks = λ v d x n q ready known made. (ready, subst (λ (p : Piece). CanLend v x n p) (sym made.1) known);
-    packs = λ v d x n q z w ready known made did. (z.loan.of, did, refl);
+    Fact = λ v d x ns. Can v x ns.0 d;
+    Asks = λ v x q ns. IsReady v × Can v x ns.0 q.of;
+    Post = λ v x q ns z w. Did v x ns.0 z.number z.loan.of w;
+    Outer = λ v d x ns r w p. Did v x ns.0 r p w;
+    asks = λ v d x ns q ready known made. (ready, subst (λ (p : Piece). Can v x ns.0 p) (sym made.1) known);
+    packs = λ v d x ns q z w ready known made did. (z.loan.of, did, refl);
   }
 
-  abbrev pub appends : Trades1 (row K) loans
-  appends = record {
-    S = λ v. IsReady v;
-    Z = lending.the_row;
-    num = λ z. z.number;
-    gives = λ z. owns_loan z.loan.of;
-    Fact = λ v d x n. CanAppend v x n d;
-    Asks = λ v x q n. IsReady v × CanAppend v x n q.of;
-    Post = λ v x q n z w. AppendsLent K.rows v x n z.number z.loan.of w;
-    Outer = λ v d x n r w p. AppendsLent K.rows v x n r p w;
-    asks = λ v d x n q ready known made. (ready, subst (λ (p : Piece). CanAppend v x n p) (sym made.1) known);
-    packs = λ v d x n q z w ready known made did. (z.loan.of, did, refl);
-  }
+  abbrev pub adds : Trades 1 (row K) loans
+  adds = lends CanLend (AddsLent K.rows)
 
-  abbrev pub removes : Trades1 (row K) loans
-  removes = record {
-    S = λ v. IsReady v;
-    Z = lending.the_row;
-    num = λ z. z.number;
-    gives = λ z. owns_loan z.loan.of;
-    Fact = λ v d x n. CanRemove v x n d;
-    Asks = λ v x q n. IsReady v × CanRemove v x n q.of;
-    Post = λ v x q n z w. RemovesLent v x n z.number z.loan.of w;
-    Outer = λ v d x n r w p. RemovesLent v x n r p w;
-    asks = λ v d x n q ready known made. (ready, subst (λ (p : Piece). CanRemove v x n p) (sym made.1) known);
-    packs = λ v d x n q z w ready known made did. (z.loan.of, did, refl);
-  }
+  abbrev pub appends : Trades 1 (row K) loans
+  appends = lends CanAppend (AppendsLent K.rows)
+
+  abbrev pub removes : Trades 1 (row K) loans
+  removes = lends CanRemove RemovesLent

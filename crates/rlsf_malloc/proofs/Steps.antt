@@ -1,12 +1,13 @@
--- The steps that the templates share: a payload is made of its address, a heap is lent to a call and comes back, and a result becomes a number.
+-- The steps that the templates share: a payload is made of its address, and a heap is lent to a call and comes back.
 use Rattle.std.proofs.Common.{◌<◌, ◌^◌}
-use Rattle.rlsf_malloc.proofs.Walking.{Good, tables, Fn, Ty, Model, Closed, Running, Meets}
-use Rattle.rlsf_malloc.proofs.Walking.{◌≡◌, ℕ, List, [], ◌∷◌, refl, sym, subst, w64, MutBor, full_share, id⊢, ftrue, flft, flent, fsep, vptr, fact, ‵, raw, ◌⊛◌}
-use Rattle.rlsf_malloc.proofs.Walking.{some, later, ◌$◌, move, drop, use0, use1, use2, use3, split, join, fsplit, fjoin, fpack, pick, await, rewrite}
-use Rattle.rlsf_malloc.proofs.Walking.{lft_end, Body, yes, ref_back, part_at, mem, uint_vals, uint_Makes, block_ptr, lies_at, plain, nothing, owned, heard, peeks}
-use Rattle.rlsf_malloc.proofs.Walking.{lasts, triple_of, usize, Is, shows, fact_i, emp, sep, Val, Ura, Fml, Logic, sem, Callee, seq, call, RattleType, RefMutOf}
-use Rattle.rlsf_malloc.proofs.Walking.{Ended, Clauses, Lasts, closing}
+use Rattle.rlsf_malloc_calls.proofs.Walking.{Good, tables, Fn, Ty, Model, Closed, Running, Meets}
+use Rattle.rlsf_malloc_calls.proofs.Walking.{◌≡◌, ℕ, List, [], ◌∷◌, refl, sym, subst, w64, MutBor, full_share, id⊢, ftrue, flft, flent, fsep, vptr, fact, ‵, raw, ◌⊛◌}
+use Rattle.rlsf_malloc_calls.proofs.Walking.{some, later, ◌$◌, move, drop, use0, use1, use2, use3, split, join, fsplit, fjoin, fpack, pick, await, rewrite}
+use Rattle.rlsf_malloc_calls.proofs.Walking.{lft_end, Body, yes, ref_back, part_at, mem, uint_vals, uint_Makes, block_ptr, lies_at, plain, nothing, owned, heard, peeks}
+use Rattle.rlsf_malloc_calls.proofs.Walking.{lasts, triple_of, usize, Is, shows, fact_i, emp, sep, Val, Ura, Fml, Logic, sem, Callee, seq, call, RattleType, RefMutOf}
+use Rattle.rlsf_malloc_calls.proofs.Walking.{Ended, Clauses, Lasts, closing}
 use Rattle.rlsf_c_lemmas.proofs.Lending.{lends}
+use Rattle.rlsf_malloc_calls.proofs.PassedNumbers.{finished, passes}
 use Rattle.rlsf_malloc.proofs.HeapKinds.{Kind, row}
 use Rattle.rlsf_malloc.specs.Handle.{HoldsBeside}
 use base.Logic.{SProp, ent, via, mono_l}
@@ -34,13 +35,9 @@ pub record Payloads : Type 2 where
   pub owns : D → Fml
   pub Makes : ℕ → D → Q.Denot → Type 0
 
--- the signatures of the calls: one that makes a value of the type Q of an address, one that makes a number of a value of the type Z, and one that is
--- lent a heap of the type R and passed more
+-- the signatures of the calls: one that makes a value of the type Q of an address, and one that is lent a heap of the type R and passed more
 abbrev pub taken : RattleType → Ended
 taken Q = record { signature = record { lifetimes = 0; outlives = []; params = plain (λ κs. usize) ∷ []; result = plain (λ κs. Q) }; kept = (yes, tt) }
-
-abbrev pub finished : RattleType → Ended
-finished Z = record { signature = record { lifetimes = 0; outlives = []; params = plain (λ κs. Z) ∷ []; result = plain (λ κs. usize) }; kept = (yes, tt) }
 
 abbrev pub called : (K : Kind) (more : List (Slot 5)) → Kepts more → RattleType → Ended
 called K more keeps Z = record {
@@ -58,13 +55,13 @@ module _ {M : Type 1} {𝓤 : Ura M} (𝓛 : Logic 𝓤) where
   abbrev pub takes : (Q : RattleType) {D : Type 0} → (D → Fml) → (ℕ → D → Q.Denot → Type 0) → Clauses 𝓤 (taken Q)
   takes Q {D} owns Makes κs a = record { ghost = D; requires = λ d. sem 𝓛 (owns d); ensures = λ d r end. fact 𝓤 (Makes a.0 d r) }
 
-  abbrev pub passes : (Z : RattleType) → (Z.Denot → ℕ) → (Z.Denot → Fml) → Clauses 𝓤 (finished Z)
-  passes Z num gives κs a = record { ghost = Unit {0}; requires = λ g. emp 𝓤; ensures = λ g r end. sep 𝓤 (sem 𝓛 (gives a.0)) (fact 𝓤 (r ≡ num a.0)) }
+  -- what a call on a value of the type R requires of its type parameters, beside P, where these last for the lifetimes κs
+  abbrev pub at_row : RattleType → Kind → Lfts 4 → Type 0 → SProp 𝓤
+  at_row R K κs P = sep 𝓤 (fact 𝓤 (κs.0 ⊑ K.B.lives)) (sep 𝓤 (fact 𝓤 (κs.1.0 ⊑ K.B.lives)) (sep 𝓤 (fact 𝓤 (κs.1.1.0 ⊑ [])) (sep 𝓤 (fact 𝓤 (κs.1.1.1.0 ⊑ []))
+      (sep 𝓤 (fact 𝓤 (size (layout R) < 2 ^ 63)) (fact 𝓤 P)))))
 
-  -- what a call requires of its type parameters, beside P, where these last for the lifetimes κs
   abbrev pub at_kind : Kind → Lfts 4 → Type 0 → SProp 𝓤
-  at_kind K κs P = sep 𝓤 (fact 𝓤 (κs.0 ⊑ K.B.lives)) (sep 𝓤 (fact 𝓤 (κs.1.0 ⊑ K.B.lives)) (sep 𝓤 (fact 𝓤 (κs.1.1.0 ⊑ [])) (sep 𝓤 (fact 𝓤 (κs.1.1.1.0 ⊑ []))
-      (sep 𝓤 (fact 𝓤 (size (layout (row K)) < 2 ^ 63)) (fact 𝓤 P)))))
+  at_kind K = at_row (row K) K
 
   abbrev pub changes : (K : Kind) (more : List (Slot 5)) (keeps : Kepts more) (Z : RattleType)
       → ((κs : Lfts 5) → (row K).Denot → Denots (types_at more κs) → Type 0)
@@ -88,12 +85,15 @@ module _ {M : Type 1} {𝓤 : Ura M} (𝓛 : Logic 𝓤) where
       use0 𝓛 (‵ (flft [] full_share)) (𝓛.lfts.lft-nil full_share) $ join ! $ use0 𝓛 (‵ (flft [] full_share)) (𝓛.lfts.lft-nil full_share) $ join ! $
       use0 𝓛 (‵ (flft [] full_share)) (𝓛.lfts.lft-nil full_share) $ join ! $ done !
 
-  pub kind_lasts : (K : Kind) (P : Type 0) → P → ent 𝓤 (emp 𝓤) (at_kind K lasting P)
-  kind_lasts K P p = qed 𝓛 [] ∵ use0 𝓛 (raw (fact 𝓤 P)) (fact_i 𝓤 P (emp 𝓤) p) $
-      use0 𝓛 (raw (fact 𝓤 (size (layout (row K)) < 2 ^ 63))) (fact_i 𝓤 _ (emp 𝓤) K.small) $ join ! $
+  pub row_lasts : (R : RattleType) (K : Kind) → size (layout R) < 2 ^ 63 → (P : Type 0) → P → ent 𝓤 (emp 𝓤) (at_row R K lasting P)
+  row_lasts R K small P p = qed 𝓛 [] ∵ use0 𝓛 (raw (fact 𝓤 P)) (fact_i 𝓤 P (emp 𝓤) p) $
+      use0 𝓛 (raw (fact 𝓤 (size (layout R) < 2 ^ 63))) (fact_i 𝓤 _ (emp 𝓤) small) $ join ! $
       use0 𝓛 (raw (fact 𝓤 ([] ⊑ []))) (fact_i 𝓤 _ (emp 𝓤) (⊑_refl [])) $ join ! $ use0 𝓛 (raw (fact 𝓤 ([] ⊑ []))) (fact_i 𝓤 _ (emp 𝓤) (⊑_refl [])) $ join ! $
       use0 𝓛 (raw (fact 𝓤 ([] ⊑ K.B.lives))) (fact_i 𝓤 _ (emp 𝓤) K.lasting) $ join ! $ use0 𝓛 (raw (fact 𝓤 ([] ⊑ K.B.lives))) (fact_i 𝓤 _ (emp 𝓤) K.lasting) $ join ! $
       done !
+
+  pub kind_lasts : (K : Kind) (P : Type 0) → P → ent 𝓤 (emp 𝓤) (at_kind K lasting P)
+  kind_lasts K = row_lasts (row K) K K.small
 
 -- An export meets its contract where its calls meet theirs: it makes a payload of an address, lends the heap, and makes a number of the result.
 abbrev pub Trades : (M : Type 1) (exported lent : Ended) → ((𝓤 : Ura M) (𝓛 : Logic 𝓤) → Clauses 𝓤 exported) → ((𝓤 : Ura M) (𝓛 : Logic 𝓤) → Clauses 𝓤 lent)
@@ -124,21 +124,6 @@ module _ {M : Type 1} {𝓤 : Ura M} {𝓛 : Logic 𝓤} {X : Type 0} {Γ : List
       some (λ (ws : Lasts (taken Q) tt (x, tt)). ‵ (lasts (taken Q) tt (x, tt) ws) ⊛ raw (fact 𝓤 (Makes x d q)))))) (id⊢ 𝓤 _) $
       await t tt $ pick t (λ q. split t $ split t $ drop t $ peeks t Q (Is Q) (shows 𝓛 Q) q (u ∷ []) (λ is.
       move t (1 ∷ []) $ pick t (λ ws. split t $ drop t $ heard t (Makes x d q) (λ made. next u q is made)))))
-
-  -- a number is made of a value, and the caller gets what it owns
-  pub passes_number : X → FmC 𝓤 𝓛.H 𝓛.laws C → (Z : RattleType) (num : Z.Denot → ℕ) (gives : Z.Denot → Fml)
-      → Triple 𝓤 (C f) (triple_of 𝓛 (finished Z).signature (closing 𝓛 (finished Z) (passes 𝓛 Z num gives)))
-      → (z : Z.Denot) (v : Val) → ((i : Item 𝓤) → Opds X 𝓛 (i ∷ Γ) E xs (v ∷ []))
-      → ((h : Val) (m : ℕ) → Is usize m (h ∷ []) → m ≡ num z → Seq X 𝓛 (‵ (gives z) ∷ ‵ (usize.own_val m (h ∷ [])) ∷ Γ) (lands C Λ E place h rest end))
-      → Seq X 𝓛 (‵ (Z.own_val z (v ∷ [])) ∷ Γ) (runs C Λ E (seq (call f xs place) rest) end)
-  passes_number t fm Z num gives met z v operands next =
-      let T = triple_of 𝓛 (finished Z).signature (closing 𝓛 (finished Z) (passes 𝓛 Z num gives)) in let y : T.Ghost = ((tt, tt, tt, (z, tt), (v ∷ [], tt)), tt) in
-      nothing t $ move t (1 ∷ 0 ∷ []) $ join t $ nothing t $ join t $ nothing t $ move t (1 ∷ 0 ∷ []) $ use2 𝓛 (raw (T.pre y)) (id⊢ 𝓤 _) $
-      calls_from t fm (raw (T.pre y)) (T.args y) (T.post y) (met y) (operands (raw (T.pre y))) (λ h.
-      use1 𝓛 (later (some (λ (m : ℕ). (‵ ftrue ⊛ ‵ (usize.own_val m (h ∷ []))) ⊛
-      some (λ (ws : Lasts (finished Z) tt (z, tt)). ‵ (lasts (finished Z) tt (z, tt) ws) ⊛ (‵ (gives z) ⊛ raw (fact 𝓤 (m ≡ num z))))))) (id⊢ 𝓤 _) $
-      await t tt $ pick t (λ m. split t $ split t $ drop t $ peeks t usize (Is usize) (shows 𝓛 usize) m (h ∷ []) (λ is.
-      move t (1 ∷ []) $ pick t (λ ws. split t $ drop t $ split t $ move t (1 ∷ []) $ heard t (m ≡ num z) (λ at. next h m is at)))))
 
   -- the heap at (b, o) is lent to a call, which is passed more, and comes back
   pub lends_heap : X → FmC 𝓤 𝓛.H 𝓛.laws C → (K : Kind) (more : List (Slot 5)) (keeps : Kepts more) (Z : RattleType)

@@ -2,12 +2,9 @@
 pub mod Begins
 pub mod Checks
 pub mod Ends
-pub mod Gives1
-pub mod Gives2
+pub mod Gives
 pub mod Lends2
 pub mod Lists
 pub mod Signatures
 pub mod Takes
-pub mod Trades0
-pub mod Trades1
-pub mod Trades2
+pub mod Trades

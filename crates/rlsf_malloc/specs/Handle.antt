@@ -7,13 +7,10 @@ use denote.Builtin.{u16, u64}
 use prog.Memory.{size}
 use denote.Param.{layout, number}
 use denote.RattleType.{RattleType}
-use denote.RawPtr.{◌+ₚ◌}
-use Rattle.rlsf_base.specs.OpenSpace.{Home, place_in}
+use Rattle.rlsf_base.specs.OpenSpace.{Home}
 use Rattle.rlsf_base.specs.Out.{Change}
 use Rattle.rlsf_base.specs.Piece.{Piece}
-use Rattle.rlsf_base.specs.RawParts.{LiesAtBlock}
 use Rattle.rlsf_base.specs.Steps.Ownership.{lent_at}
-use Rattle.rlsf_base.specs.declared.memory.block.RawParts.{RawParts}
 use Rattle.rlsf_int.specs.contracts.impls.u16.U16BitPattern.TheImpl.{ghosts as ghosts16}
 use Rattle.rlsf_int.specs.contracts.impls.u64.U64BitPattern.TheImpl.{ghosts as ghosts64}
 use Rattle.rlsf_heap.specs.Heap.{PayloadView}
@@ -21,6 +18,7 @@ use Rattle.rlsf_heap.specs.Loans.{owns_loan}
 use Rattle.rlsf_heap.specs.Thin.{owns_reply}
 use Rattle.rlsf_heap.specs.contracts.heap.Heap.{the_row}
 use Rattle.rlsf_heap.specs.contracts.words.HeapWords.{the_row as words_row}
+use Rattle.rlsf_malloc_calls.specs.Parts.{first_of}
 
 -- the type of a large heap
 abbrev pub large : RattleType
@@ -77,14 +75,6 @@ Returns R p P = HoldsBeside R p Piece P (λ v q. owns_loan q)
 -- the number of bytes of a handle of a heap of the type R
 abbrev pub handle_size : RattleType → ℕ
 handle_size R = size (layout R)
-
--- where the first byte of a memory lies
-abbrev pub first_of : Home → Ptr
-first_of h = h.view.base.ptr +ₚ place_in h.view h.start
-
--- the parts of a memory, with these changes of its bytes' states, of which P is true
-abbrev pub ArePartsOf : Home → List Change → Type 0 → RawParts → Type 0
-ArePartsOf h cs P r = (r.base.ptr ≡ first_of h) × (r.start ≡ h.start) × LiesAtBlock r × (length r.bytes.bytes ≡ h.len) × (r.bytes.out ≡ cs) × P
 
 -- of the bytes of a memory, where they lie, those that aren't out by these changes, of which P is true, each with some value
 abbrev pub rest_of : Home → List Change → Type 0 → Fml

@@ -1,8 +1,4 @@
--- Definitions for the library of heaps that are used in place. Read `Handle` and `Calls` first.
-pub mod Blocks
-pub mod Calls
+-- Definitions for the library of heaps that are used in place. Read `Handle` first, and `Calls` of `rlsf_malloc_calls`.
 pub mod Handle
 pub mod Ranges
-pub mod Replies
-pub mod Resizing
 pub mod Words

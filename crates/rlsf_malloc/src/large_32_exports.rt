@@ -15,16 +15,16 @@ ghost use Rattle.rlsf_heap.specs.Heap.{HeapView, PayloadView};
 ghost use Rattle.rlsf_heap.specs.Words.{WordsView};
 ghost use Rattle.rlsf_blocks.specs.Consistency.Consistent.{ArePoolsLegible};
 ghost use Rattle.rlsf_heap.specs.Thin.{owns_reply};
-ghost use Rattle.rlsf_malloc.specs.Blocks.{AreTotals, IsAny, IsCheckOf, IsListing};
-ghost use Rattle.rlsf_malloc.specs.Calls.{AddsLent, AllocatesPayload, AllocatesZeroed, AppendsLent, CanAppend, CanLend, CanRemove, Frees, IsPayloadAt, IsFreshHeap, IsReady, IsUsableSize, OwnsLent, RemovesLent, aligned_for};
+ghost use Rattle.rlsf_malloc_calls.specs.Blocks.{AreTotals, IsAny, IsCheckOf, IsListing};
+ghost use Rattle.rlsf_malloc_calls.specs.Calls.{AddsLent, AllocatesPayload, AllocatesZeroed, AppendsLent, CanAppend, CanLend, CanRemove, Frees, IsPayloadAt, IsFreshHeap, IsReady, IsUsableSize, OwnsLent, RemovesLent, aligned_for};
 ghost use Rattle.rlsf_malloc.specs.Handle.{Gives, HoldsValue, HoldsSome, Returns, handle_size, rest_of, large_32, large_32_words};
-ghost use Rattle.rlsf_malloc.specs.Ranges.{IsPoolSizeForBudget, IsPoolSizeOf};
-ghost use Rattle.rlsf_malloc.specs.Resizing.{ResizesAligned, ResizesAny, ResizesInPlace};
+ghost use Rattle.rlsf_malloc_calls.specs.Lengths.{IsPoolSizeForBudget, IsPoolSizeOf};
+ghost use Rattle.rlsf_malloc_calls.specs.Resizing.{ResizesAligned, ResizesAny, ResizesInPlace};
 
-use crate::{calls, pools, ranges, resizing};
 use rlsf_base::memory::OpenMemory;
 use rlsf_blocks::Totals;
 use rlsf_heap::{Heap, HeapWords, Loan, ThinPayload};
+use rlsf_malloc_calls::{calls, lengths, pools, resizing};
 use std::alloc::Global;
 use std::mem::size_of;
 
@@ -47,7 +47,7 @@ pub extern "C" fn rlsf_large_32_size() -> usize
 pub extern "C" fn rlsf_large_32_pool_size(size: usize, align: usize) -> usize
     ensures { IsPoolSizeOf 64 32 size align result }
 {
-    ranges::pool_size::<u64, u64, 64, 32>(size, align)
+    lengths::pool_size::<u64, u64, 64, 32>(size, align)
 }
 
 /// As `rlsf_large_pool_size_for_budget`, for 64 rows of 32 classes.
@@ -60,7 +60,7 @@ pub extern "C" fn rlsf_large_32_pool_size_for_budget(
 ) -> usize
     ensures { IsPoolSizeForBudget 64 32 count bytes size align result }
 {
-    ranges::pool_size_for_budget::<u64, u64, 64, 32>(count, bytes, size, align)
+    lengths::pool_size_for_budget::<u64, u64, 64, 32>(count, bytes, size, align)
 }
 
 /// As `rlsf_large_init`, for 64 rows of 32 classes.

@@ -15,16 +15,16 @@ ghost use Rattle.rlsf_heap.specs.Heap.{HeapView, PayloadView};
 ghost use Rattle.rlsf_heap.specs.Words.{WordsView};
 ghost use Rattle.rlsf_blocks.specs.Consistency.Consistent.{ArePoolsLegible};
 ghost use Rattle.rlsf_heap.specs.Thin.{owns_reply};
-ghost use Rattle.rlsf_malloc.specs.Blocks.{AreTotals, IsAny, IsCheckOf, IsListing};
-ghost use Rattle.rlsf_malloc.specs.Calls.{AddsLent, AllocatesPayload, AllocatesZeroed, AppendsLent, CanAppend, CanLend, CanRemove, Frees, IsPayloadAt, IsFreshHeap, IsReady, IsUsableSize, OwnsLent, RemovesLent, aligned_for};
+ghost use Rattle.rlsf_malloc_calls.specs.Blocks.{AreTotals, IsAny, IsCheckOf, IsListing};
+ghost use Rattle.rlsf_malloc_calls.specs.Calls.{AddsLent, AllocatesPayload, AllocatesZeroed, AppendsLent, CanAppend, CanLend, CanRemove, Frees, IsPayloadAt, IsFreshHeap, IsReady, IsUsableSize, OwnsLent, RemovesLent, aligned_for};
 ghost use Rattle.rlsf_malloc.specs.Handle.{Gives, HoldsValue, HoldsSome, Returns, handle_size, rest_of, large, large_words};
-ghost use Rattle.rlsf_malloc.specs.Ranges.{IsPoolSizeForBudget, IsPoolSizeOf};
-ghost use Rattle.rlsf_malloc.specs.Resizing.{ResizesAligned, ResizesAny, ResizesInPlace};
+ghost use Rattle.rlsf_malloc_calls.specs.Lengths.{IsPoolSizeForBudget, IsPoolSizeOf};
+ghost use Rattle.rlsf_malloc_calls.specs.Resizing.{ResizesAligned, ResizesAny, ResizesInPlace};
 
-use crate::{calls, pools, ranges, resizing};
 use rlsf_base::memory::OpenMemory;
 use rlsf_blocks::Totals;
 use rlsf_heap::{Heap, HeapWords, Loan, ThinPayload};
+use rlsf_malloc_calls::{calls, lengths, pools, resizing};
 use std::alloc::Global;
 use std::mem::size_of;
 
@@ -48,7 +48,7 @@ pub extern "C" fn rlsf_large_size() -> usize
 pub extern "C" fn rlsf_large_pool_size(size: usize, align: usize) -> usize
     ensures { IsPoolSizeOf 64 64 size align result }
 {
-    ranges::pool_size::<u64, u64, 64, 64>(size, align)
+    lengths::pool_size::<u64, u64, 64, 64>(size, align)
 }
 
 /// Returns the length of a range, from a multiple of 32 on, that refuses no payload of up to a size and an alignment. This holds while, before
@@ -63,7 +63,7 @@ pub extern "C" fn rlsf_large_pool_size_for_budget(
 ) -> usize
     ensures { IsPoolSizeForBudget 64 64 count bytes size align result }
 {
-    ranges::pool_size_for_budget::<u64, u64, 64, 64>(count, bytes, size, align)
+    lengths::pool_size_for_budget::<u64, u64, 64, 64>(count, bytes, size, align)
 }
 
 /// Creates a heap of the large kind at a handle, over the `len` addresses from `start` on, the first of which is that of `block`. The heap owns no byte

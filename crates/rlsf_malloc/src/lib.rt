@@ -2,15 +2,11 @@
 //! no byte of the payloads that are out. `include/rlsf.h` declares the calls.
 //!
 //! There are four kinds of heaps. Read `large_exports.rt` first; the exports of the other kinds are the same, and `tools/kinds` writes them. They
-//! make the calls of `calls.rt`, `resizing.rt` and `pools.rt`, whose results are in `replies.rt`.
+//! make the calls of `rlsf_malloc_calls`.
 #![tactic(auto)]
 
-mod calls;
 mod large_32_exports;
 mod large_8_exports;
 mod large_exports;
-mod pools;
 mod ranges;
-mod replies;
-mod resizing;
 mod small_exports;

@@ -1,12 +1,12 @@
 -- Exports that make a memory of addresses, and write a heap over it to the room behind the handle.
-use Rattle.rlsf_malloc.proofs.Walking.{◌≡◌, ℕ, [], ◌∷◌, ◌++◌, refl, w64, proved, full_share, id⊢, ftrue, vunit, WpFn, fact, tables, ‵, raw, ◌⊛◌, some, later}
-use Rattle.rlsf_malloc.proofs.Walking.{prop, ◌$◌, ◌∵◌, !, qed, done, move, keep, drop, use0, use1, use2, split, join, fsplit, fpack, feq_i, pick, await}
-use Rattle.rlsf_malloc.proofs.Walking.{suffices, group, enter, of_opd, stop, no_more, and_then, returns, alloc_all, pass_all, free_all, look_at, get, through}
-use Rattle.rlsf_malloc.proofs.Walking.{sets, lands_as, yes, part_at, uint_vals, uint_Tells, Ptr, RawPtr, block_ptr, lies_at, rawptr_vals, rawptr_Tells, plain}
-use Rattle.rlsf_malloc.proofs.Walking.{nothing, owned, heard, calls_at, lasts, triple_of, Stays, walk_of, stay_dropped, Goes-dropped, ends_at, framed, usize}
-use Rattle.rlsf_malloc.proofs.Walking.{unit, unit_lit, uint_Makes, Is, shows, peeks, fact_i, emp, Val, Ura, sep, Logic, sem, Model, Closed, Running, Fn}
-use Rattle.rlsf_malloc.proofs.Walking.{Callee, Ty, local, value_local, ty_ptr, ty_int, ty_unit, seq, assign, place, rv_opd, copy, opd_unit, deref, call}
-use Rattle.rlsf_malloc.proofs.Walking.{return, RattleType, Ended, Clauses, closing, Meets, Good, in_a_block, regoal}
+use Rattle.rlsf_malloc_calls.proofs.Walking.{◌≡◌, ℕ, [], ◌∷◌, ◌++◌, refl, w64, proved, full_share, id⊢, ftrue, vunit, WpFn, fact, tables, ‵, raw, ◌⊛◌, some, later}
+use Rattle.rlsf_malloc_calls.proofs.Walking.{prop, ◌$◌, ◌∵◌, !, qed, done, move, keep, drop, use0, use1, use2, split, join, fsplit, fpack, feq_i, pick, await}
+use Rattle.rlsf_malloc_calls.proofs.Walking.{suffices, group, enter, of_opd, stop, no_more, and_then, returns, alloc_all, pass_all, free_all, look_at, get, through}
+use Rattle.rlsf_malloc_calls.proofs.Walking.{sets, lands_as, yes, part_at, uint_vals, uint_Tells, Ptr, RawPtr, block_ptr, lies_at, rawptr_vals, rawptr_Tells, plain}
+use Rattle.rlsf_malloc_calls.proofs.Walking.{nothing, owned, heard, calls_at, lasts, triple_of, Stays, walk_of, stay_dropped, Goes-dropped, ends_at, framed, usize}
+use Rattle.rlsf_malloc_calls.proofs.Walking.{unit, unit_lit, uint_Makes, Is, shows, peeks, fact_i, emp, Val, Ura, sep, Logic, sem, Model, Closed, Running, Fn}
+use Rattle.rlsf_malloc_calls.proofs.Walking.{Callee, Ty, local, value_local, ty_ptr, ty_int, ty_unit, seq, assign, place, rv_opd, copy, opd_unit, deref, call}
+use Rattle.rlsf_malloc_calls.proofs.Walking.{return, RattleType, Ended, Clauses, closing, Meets, Good, in_a_block, regoal}
 use Rattle.std.proofs.Common.{List, length, ap, sym, ◌∙◌}
 use base.Fml.{froom}
 use borrow.Table.OneValue.{part_in}
@@ -28,7 +28,7 @@ use Rattle.rlsf_base.specs.contracts.memory.open_memory.OpenMemory.over_addresse
 use Rattle.rlsf_base.specs.SizeClass.{IsValid}
 use Rattle.rlsf_malloc.proofs.HeapKinds.{Kind, row}
 use Rattle.rlsf_malloc.proofs.Steps.{at_kind, kind_lasts, lasting, tokens, all_shares}
-use Rattle.rlsf_malloc.specs.Calls.{IsAllOut}
+use Rattle.rlsf_malloc_calls.specs.Calls.{IsAllOut}
 use Rattle.rlsf_malloc.specs.Handle.{HoldsSome}
 use contract.Lifetimes.{toks}
 

@@ -1,28 +1,23 @@
 -- Exports that lend the words behind the handle to a call, pass it a slice that is only read, and return a number.
-use Rattle.rlsf_malloc.proofs.Walking.{ℕ, List, [], ◌∷◌, ◌++◌, refl, w64, proved, full_share, id⊢, ftrue, flft, vptr, WpFn, fact, tables, ‵, raw, ◌⊛◌, some, later}
-use Rattle.rlsf_malloc.proofs.Walking.{prop, ◌$◌, ◌∵◌, !, qed, done, move, keep, drop, use0, use1, use2, use3, split, join, fsplit, fpack, pick}
-use Rattle.rlsf_malloc.proofs.Walking.{await, suffices, group, lft_end, enter, of_opd, addr, stop, no_more, and_then, returns, alloc_all, pass_all, free_all}
-use Rattle.rlsf_malloc.proofs.Walking.{look_at, get, through, sets, lands_as, yes, ref_back, part_at, Ptr, RawPtr, block_ptr, lies_at}
-use Rattle.rlsf_malloc.proofs.Walking.{rawptr_vals, rawptr_Tells, plain, nothing, heard, calls_at, lasts, triple_of, Stays, walk_of, stay_dropped}
-use Rattle.rlsf_malloc.proofs.Walking.{Goes-dropped, ends_at, framed, usize, Is, shows, peeks, uint_Lawful, Ura, sep, Logic, sem}
-use Rattle.rlsf_malloc.proofs.Walking.{Model, Closed, Running, Fn, Callee, Ty, local, value_local, ty_ptr, ty_int, ty_ref, erased, mut, seq, assign, place}
-use Rattle.rlsf_malloc.proofs.Walking.{rv_opd, copy, addr_of, deref, call, return, RattleType, RefMutOf, Ended, Clauses, closing, Meets}
-use Rattle.rlsf_malloc.proofs.Walking.{fact_i, emp}
-use Rattle.std.proofs.Common.{◌<◌, ◌^◌}
-use base.Logic.{SProp, ent}
+use Rattle.rlsf_malloc_calls.proofs.Walking.{ℕ, List, [], ◌∷◌, ◌++◌, refl, w64, proved, full_share, id⊢, ftrue, flft, vptr, WpFn, fact, tables, ‵, raw, ◌⊛◌, some, later}
+use Rattle.rlsf_malloc_calls.proofs.Walking.{prop, ◌$◌, ◌∵◌, !, qed, done, move, keep, drop, use0, use1, use2, use3, split, join, fsplit, fpack, pick}
+use Rattle.rlsf_malloc_calls.proofs.Walking.{await, suffices, group, lft_end, enter, of_opd, addr, stop, no_more, and_then, returns, alloc_all, pass_all, free_all}
+use Rattle.rlsf_malloc_calls.proofs.Walking.{look_at, get, through, sets, lands_as, yes, ref_back, part_at, Ptr, RawPtr, block_ptr, lies_at}
+use Rattle.rlsf_malloc_calls.proofs.Walking.{rawptr_vals, rawptr_Tells, plain, nothing, heard, calls_at, lasts, triple_of, Stays, walk_of, stay_dropped}
+use Rattle.rlsf_malloc_calls.proofs.Walking.{Goes-dropped, ends_at, framed, usize, Is, shows, peeks, uint_Lawful, Ura, sep, Logic, sem}
+use Rattle.rlsf_malloc_calls.proofs.Walking.{Model, Closed, Running, Fn, Callee, Ty, local, value_local, ty_ptr, ty_int, ty_ref, erased, mut, seq, assign, place}
+use Rattle.rlsf_malloc_calls.proofs.Walking.{rv_opd, copy, addr_of, deref, call, return, RattleType, RefMutOf, Ended, Clauses, closing, Meets}
 use mir.Syntax.{named}
 use denote.RattleType.{owns}
 use denote.Builtin.{SliceRefOf}
-use denote.Param.{layout}
 use denote.Signature.{shr_slice_of}
 use denote.Slice.{ShrSlice, shr_slice_vals, shr_slice_Tells}
 use Rattle.rlsf_c_lemmas.proofs.Lending.{in_its_block, lends}
-use contract.BorrowLft.{◌⊑◌, ⊑_refl, ⊑_static}
-use contract.Lifetimes.{Lfts, toks}
-use prog.Memory.{size}
+use contract.BorrowLft.{⊑_static}
+use contract.Lifetimes.{toks}
 use Rattle.rlsf_base.specs.SizeClass.{IsValid}
 use Rattle.rlsf_malloc.proofs.HeapKinds.{Kind, words}
-use Rattle.rlsf_malloc.proofs.Steps.{lasting, tokens, all_shares}
+use Rattle.rlsf_malloc.proofs.Steps.{at_row, row_lasts, lasting, tokens, all_shares}
 use Rattle.rlsf_malloc.specs.Handle.{HoldsValue, HoldsSome}
 use denote.Memory.{lone}
 
@@ -70,19 +65,6 @@ called K = record {
 abbrev stayed : Stays exported.signature.params exported.kept
 stayed = (stay_dropped _ yes, (stay_dropped _ yes, tt))
 
--- what a call on words requires of its type parameters, beside P
-module _ {M : Type 1} {𝓤 : Ura M} (𝓛 : Logic 𝓤) where
-  abbrev pub at_words : Kind → Lfts 4 → Type 0 → SProp 𝓤
-  at_words K κs P = sep 𝓤 (fact 𝓤 (κs.0 ⊑ K.B.lives)) (sep 𝓤 (fact 𝓤 (κs.1.0 ⊑ K.B.lives)) (sep 𝓤 (fact 𝓤 (κs.1.1.0 ⊑ [])) (sep 𝓤 (fact 𝓤 (κs.1.1.1.0 ⊑ []))
-      (sep 𝓤 (fact 𝓤 (size (layout (words K)) < 2 ^ 63)) (fact 𝓤 P)))))
-
-  words_last : (K : Kind) (P : Type 0) → P → ent 𝓤 (emp 𝓤) (at_words K (lasting 𝓛) P)
-  words_last K P p = qed 𝓛 [] ∵ use0 𝓛 (raw (fact 𝓤 P)) (fact_i 𝓤 P (emp 𝓤) p) $
-      use0 𝓛 (raw (fact 𝓤 (size (layout (words K)) < 2 ^ 63))) (fact_i 𝓤 _ (emp 𝓤) K.words_small) $ join ! $
-      use0 𝓛 (raw (fact 𝓤 ([] ⊑ []))) (fact_i 𝓤 _ (emp 𝓤) (⊑_refl [])) $ join ! $ use0 𝓛 (raw (fact 𝓤 ([] ⊑ []))) (fact_i 𝓤 _ (emp 𝓤) (⊑_refl [])) $ join ! $
-      use0 𝓛 (raw (fact 𝓤 ([] ⊑ K.B.lives))) (fact_i 𝓤 _ (emp 𝓤) K.lasting) $ join ! $ use0 𝓛 (raw (fact 𝓤 ([] ⊑ K.B.lives))) (fact_i 𝓤 _ (emp 𝓤) K.lasting) $ join ! $
-      done !
-
 module _ (K : Kind) (S : (words K).Denot → Type 0) (Fact : (words K).Denot → List ℕ → Type 0)
     (Post : (words K).Denot → List ℕ → ℕ → (words K).Denot → Type 0) where
   abbrev R : RattleType
@@ -102,7 +84,7 @@ module _ (K : Kind) (S : (words K).Denot → Type 0) (Fact : (words K).Denot →
     abbrev pub inner : Clauses 𝓤 (called K)
     inner κs a = record {
       ghost = Unit {0};
-      requires = λ _. at_words 𝓛 K κs.1.1 (Asks a.0.now a.1.0.now);
+      requires = λ _. at_row 𝓛 (words K) K κs.1.1 (Asks a.0.now a.1.0.now);
       ensures = λ _ r end. fact 𝓤 (Post a.0.now a.1.0.now r end.0.now);
     }
 
@@ -142,7 +124,7 @@ module _ (K : Kind) (S : (words K).Denot → Type 0) (Fact : (words K).Denot →
       nothing ! $ move ! (4 ∷ 0 ∷ []) $ join ! $ move ! (1 ∷ 0 ∷ []) $ join ! $
       -- [the arguments; what the lender keeps; the token of α; the token of κ; the locals]
       use0 𝓛 (raw (toks 𝓛 4 (lasting 𝓛) (all_shares 𝓛))) (tokens 𝓛) $ move ! (4 ∷ 0 ∷ []) $ join ! $ move ! (3 ∷ 0 ∷ []) $ join ! $ join ! $
-      use0 𝓛 (raw (at_words 𝓛 K (lasting 𝓛) (Asks before z'.now))) (words_last 𝓛 K (Asks before z'.now) (K.valid, live)) $
+      use0 𝓛 (raw (at_row 𝓛 R K (lasting 𝓛) (Asks before z'.now))) (row_lasts 𝓛 R K K.words_small (Asks before z'.now) (K.valid, live)) $
       move ! (1 ∷ 0 ∷ []) $ use2 𝓛 (raw (G.pre y)) (id⊢ 𝓤 _) $
       calls_at ! (framed 𝓤 𝓛.H 𝓜 (tables 𝓤 𝓛.H 𝓜 𝓡 𝓡.env)) G met y (and_then ! (get ! refl) (and_then ! (get ! refl) (no_more !))) (λ v.
       use1 𝓛 (later (some (λ (r : ℕ). ((‵ (flft (α ∷ []) full_share) ⊛ (‵ (flft κ q) ⊛ raw (toks 𝓛 4 (lasting 𝓛) (all_shares 𝓛)))) ⊛ ‵ (usize.own_val r (v ∷ []))) ⊛

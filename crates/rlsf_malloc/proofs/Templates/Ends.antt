@@ -1,12 +1,12 @@
 -- Exports that take the heap from behind the handle, and pass its bytes to the caller.
-use Rattle.rlsf_malloc.proofs.Walking.{◌≡◌, ℕ, [], ◌∷◌, ◌++◌, refl, proved, full_share, id⊢, ftrue, vunit, WpFn, fact, tables, ‵, raw, ◌⊛◌, some, later, prop}
-use Rattle.rlsf_malloc.proofs.Walking.{◌$◌, ◌∵◌, !, qed, done, move, drop, use0, use1, use2, split, join, fpack, feq_i, pick, await, rewrite, suffices, group}
-use Rattle.rlsf_malloc.proofs.Walking.{enter, of_opd, stop, no_more, and_then, returns, alloc_all, pass_all, free_all, look_at, get, through, sets, lands_as}
-use Rattle.rlsf_malloc.proofs.Walking.{yes, Ptr, RawPtr, block_ptr, lies_at, rawptr_vals, rawptr_Tells, plain, nothing, heard, calls_at, lasts, on_entry}
-use Rattle.rlsf_malloc.proofs.Walking.{triple_of, Stays, walk_of, stay_dropped, Goes-dropped, ends_at, framed, unit, unit_lit, Is, shows, peeks, fact_i, emp}
-use Rattle.rlsf_malloc.proofs.Walking.{Val, Ura, sep, Logic, sem, Model, Closed, Running, Fn, Callee, Ty, local, value_local, ty_ptr, ty_unit, seq}
-use Rattle.rlsf_malloc.proofs.Walking.{assign, place, rv_opd, copy, opd_unit, deref, call, return, RattleType, Ended, Clauses, Lasts, closing, Meets, Good}
-use Rattle.rlsf_malloc.proofs.Walking.{◌∙◌, in_a_block, regoal}
+use Rattle.rlsf_malloc_calls.proofs.Walking.{◌≡◌, ℕ, [], ◌∷◌, ◌++◌, refl, proved, full_share, id⊢, ftrue, vunit, WpFn, fact, tables, ‵, raw, ◌⊛◌, some, later, prop}
+use Rattle.rlsf_malloc_calls.proofs.Walking.{◌$◌, ◌∵◌, !, qed, done, move, drop, use0, use1, use2, split, join, fpack, feq_i, pick, await, rewrite, suffices, group}
+use Rattle.rlsf_malloc_calls.proofs.Walking.{enter, of_opd, stop, no_more, and_then, returns, alloc_all, pass_all, free_all, look_at, get, through, sets, lands_as}
+use Rattle.rlsf_malloc_calls.proofs.Walking.{yes, Ptr, RawPtr, block_ptr, lies_at, rawptr_vals, rawptr_Tells, plain, nothing, heard, calls_at, lasts, on_entry}
+use Rattle.rlsf_malloc_calls.proofs.Walking.{triple_of, Stays, walk_of, stay_dropped, Goes-dropped, ends_at, framed, unit, unit_lit, Is, shows, peeks, fact_i, emp}
+use Rattle.rlsf_malloc_calls.proofs.Walking.{Val, Ura, sep, Logic, sem, Model, Closed, Running, Fn, Callee, Ty, local, value_local, ty_ptr, ty_unit, seq}
+use Rattle.rlsf_malloc_calls.proofs.Walking.{assign, place, rv_opd, copy, opd_unit, deref, call, return, RattleType, Ended, Clauses, Lasts, closing, Meets, Good}
+use Rattle.rlsf_malloc_calls.proofs.Walking.{◌∙◌, in_a_block, regoal}
 use Rattle.std.proofs.Common.{List, length}
 use base.Fml.{fat}
 use borrow.Table.OneValue.{part_out}
@@ -23,7 +23,8 @@ use Rattle.rlsf_base.specs.contracts.memory.block.RawParts.release_lent as k
 use Rattle.rlsf_malloc.proofs.HeapKinds.{Kind, row}
 use Rattle.rlsf_malloc.proofs.Steps.{at_kind, kind_lasts, lasting, tokens, all_shares}
 use contract.Lifetimes.{toks}
-use Rattle.rlsf_malloc.specs.Handle.{ArePartsOf, HoldsValue, first_of, rest_of}
+use Rattle.rlsf_malloc.specs.Handle.{HoldsValue, rest_of}
+use Rattle.rlsf_malloc_calls.specs.Parts.{ArePartsOf, first_of}
 
 abbrev P : RattleType
 P = parts.the_row

@@ -1,12 +1,12 @@
 -- Exports that lend the heap behind the handle to a call with three numbers, pass a slice on, and return a number.
-use Rattle.rlsf_malloc.proofs.Walking.{ℕ, [], ◌∷◌, ◌++◌, refl, w64, proved, full_share, id⊢, ftrue, flft, vptr, WpFn, fact, tables, ‵, raw, ◌⊛◌, some, later}
-use Rattle.rlsf_malloc.proofs.Walking.{prop, ◌$◌, ◌∵◌, !, qed, done, move, keep, drop, use0, use1, use2, use3, split, join, fsplit, fjoin, fpack, feq_l, pick}
-use Rattle.rlsf_malloc.proofs.Walking.{await, suffices, group, lft_end, enter, of_opd, addr, stop, no_more, and_then, returns, alloc_all, pass_all, free_all}
-use Rattle.rlsf_malloc.proofs.Walking.{look_at, get, through, sets, lands_as, yes, ref_back, part_at, uint_vals, uint_Tells, Ptr, RawPtr, block_ptr, lies_at}
-use Rattle.rlsf_malloc.proofs.Walking.{rawptr_vals, rawptr_Tells, plain, nothing, owned, heard, calls_at, lasts, triple_of, Stays, walk_of, stay_dropped}
-use Rattle.rlsf_malloc.proofs.Walking.{Goes-dropped, ends_at, framed, usize, uint_Makes, Is, shows, peeks, uint_Lawful, Ura, sep, Logic, sem}
-use Rattle.rlsf_malloc.proofs.Walking.{Model, Closed, Running, Fn, Callee, Ty, local, value_local, ty_ptr, ty_int, ty_ref, erased, mut, seq, assign, place}
-use Rattle.rlsf_malloc.proofs.Walking.{rv_opd, copy, addr_of, deref, call, return, RattleType, RefMutOf, Ended, Clauses, closing, Meets}
+use Rattle.rlsf_malloc_calls.proofs.Walking.{ℕ, [], ◌∷◌, ◌++◌, refl, w64, proved, full_share, id⊢, ftrue, flft, vptr, WpFn, fact, tables, ‵, raw, ◌⊛◌, some, later}
+use Rattle.rlsf_malloc_calls.proofs.Walking.{prop, ◌$◌, ◌∵◌, !, qed, done, move, keep, drop, use0, use1, use2, use3, split, join, fsplit, fjoin, fpack, feq_l, pick}
+use Rattle.rlsf_malloc_calls.proofs.Walking.{await, suffices, group, lft_end, enter, of_opd, addr, stop, no_more, and_then, returns, alloc_all, pass_all, free_all}
+use Rattle.rlsf_malloc_calls.proofs.Walking.{look_at, get, through, sets, lands_as, yes, ref_back, part_at, uint_vals, uint_Tells, Ptr, RawPtr, block_ptr, lies_at}
+use Rattle.rlsf_malloc_calls.proofs.Walking.{rawptr_vals, rawptr_Tells, plain, nothing, owned, heard, calls_at, lasts, triple_of, Stays, walk_of, stay_dropped}
+use Rattle.rlsf_malloc_calls.proofs.Walking.{Goes-dropped, ends_at, framed, usize, uint_Makes, Is, shows, peeks, uint_Lawful, Ura, sep, Logic, sem}
+use Rattle.rlsf_malloc_calls.proofs.Walking.{Model, Closed, Running, Fn, Callee, Ty, local, value_local, ty_ptr, ty_int, ty_ref, erased, mut, seq, assign, place}
+use Rattle.rlsf_malloc_calls.proofs.Walking.{rv_opd, copy, addr_of, deref, call, return, RattleType, RefMutOf, Ended, Clauses, closing, Meets}
 use Rattle.std.proofs.Common.{List}
 use mir.Syntax.{aggregate, field, named}
 use denote.RattleType.{owns}

@@ -19,8 +19,8 @@ use Rattle.rlsf_blocks.proofs.Consistency.Represented.{represented_are_consisten
 use Rattle.rlsf_heap.specs.Heap.{HeapView, heap_view}
 use Rattle.rlsf_heap.specs.Loans.{owns_loan}
 use Rattle.rlsf_heap.specs.Words.{WordsView}
-use Rattle.rlsf_malloc.specs.Blocks.{IsAny, IsCheckOf}
-use Rattle.rlsf_malloc.specs.Calls.{AddsLent, IsFreshHeap, IsReady}
+use Rattle.rlsf_malloc_calls.specs.Blocks.{IsAny, IsCheckOf}
+use Rattle.rlsf_malloc_calls.specs.Calls.{AddsLent, IsFreshHeap, IsReady}
 use Rattle.rlsf_malloc.specs.Handle.{HoldsValue, HoldsSome, Returns}
 use Rattle.rlsf_malloc.specs.Words.{AreAllPools}
 use Rattle.rlsf_malloc.proofs.AsWords.{Are, as_heap, as_words}

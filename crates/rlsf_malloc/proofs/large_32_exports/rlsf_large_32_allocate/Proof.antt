@@ -5,5 +5,5 @@ use Rattle.rlsf_malloc.proofs.large_32_exports.rlsf_large_32_allocate.Statement.
 use Rattle.rlsf_malloc.proofs.large_32_exports.rlsf_large_32_allocate.Code as code
 
 pub rlsf_large_32_allocate_spec : {M : Type 1} → statement M
-rlsf_large_32_allocate_spec 𝓤 𝓛 𝓜 𝓡 wired = allocates large_32 𝓤 𝓛 𝓜 𝓡 (code.calls-rlsf_malloc::calls::allocate 𝓡.env wired)
+rlsf_large_32_allocate_spec 𝓤 𝓛 𝓜 𝓡 wired = allocates large_32 𝓤 𝓛 𝓜 𝓡 (code.calls-rlsf_malloc_calls::calls::allocate 𝓡.env wired)
     (code.calls-rlsf_heap::thin::ThinPayload::into_raw 𝓡.env wired) _ _ _ (code.unfolded 𝓤 𝓛.H 𝓜 𝓡 wired)

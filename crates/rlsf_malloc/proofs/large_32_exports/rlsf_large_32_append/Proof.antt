@@ -6,4 +6,4 @@ use Rattle.rlsf_malloc.proofs.large_32_exports.rlsf_large_32_append.Code as code
 
 pub rlsf_large_32_append_spec : {M : Type 1} → statement M
 rlsf_large_32_append_spec 𝓤 𝓛 𝓜 𝓡 wired = appends large_32 𝓤 𝓛 𝓜 𝓡 (code.calls-rlsf_heap::loan::Loan::from_raw 𝓡.env wired)
-    (code.calls-rlsf_malloc::calls::append 𝓡.env wired) (code.calls-rlsf_malloc::replies::Lending::into_raw 𝓡.env wired) _ _ _ (code.unfolded 𝓤 𝓛.H 𝓜 𝓡 wired)
+    (code.calls-rlsf_malloc_calls::calls::append 𝓡.env wired) (code.calls-rlsf_malloc_calls::replies::Lending::into_raw 𝓡.env wired) _ _ _ (code.unfolded 𝓤 𝓛.H 𝓜 𝓡 wired)

@@ -6,4 +6,4 @@ use Rattle.rlsf_malloc.proofs.large_32_exports.rlsf_large_32_free.Code as code
 
 pub rlsf_large_32_free_spec : {M : Type 1} → statement M
 rlsf_large_32_free_spec 𝓤 𝓛 𝓜 𝓡 wired = frees large_32 𝓤 𝓛 𝓜 𝓡 (code.calls-rlsf_heap::thin::ThinPayload::from_raw 𝓡.env wired)
-    (code.calls-rlsf_malloc::calls::free 𝓡.env wired) _ _ _ (code.unfolded 𝓤 𝓛.H 𝓜 𝓡 wired)
+    (code.calls-rlsf_malloc_calls::calls::free 𝓡.env wired) _ _ _ (code.unfolded 𝓤 𝓛.H 𝓜 𝓡 wired)

@@ -5,4 +5,4 @@ use Rattle.rlsf_malloc.proofs.large_8_exports.rlsf_large_8_check.Statement.{stat
 use Rattle.rlsf_malloc.proofs.large_8_exports.rlsf_large_8_check.Code as code
 
 pub rlsf_large_8_check_spec : {M : Type 1} → statement M
-rlsf_large_8_check_spec 𝓤 𝓛 𝓜 𝓡 wired = checks large_8 𝓤 𝓛 𝓜 𝓡 (code.calls-rlsf_malloc::pools::check_in 𝓡.env wired) _ _ _ (code.unfolded 𝓤 𝓛.H 𝓜 𝓡 wired)
+rlsf_large_8_check_spec 𝓤 𝓛 𝓜 𝓡 wired = checks large_8 𝓤 𝓛 𝓜 𝓡 (code.calls-rlsf_malloc_calls::pools::check_in 𝓡.env wired) _ _ _ (code.unfolded 𝓤 𝓛.H 𝓜 𝓡 wired)

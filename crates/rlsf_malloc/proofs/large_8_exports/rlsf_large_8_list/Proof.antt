@@ -5,4 +5,4 @@ use Rattle.rlsf_malloc.proofs.large_8_exports.rlsf_large_8_list.Statement.{state
 use Rattle.rlsf_malloc.proofs.large_8_exports.rlsf_large_8_list.Code as code
 
 pub rlsf_large_8_list_spec : {M : Type 1} → statement M
-rlsf_large_8_list_spec 𝓤 𝓛 𝓜 𝓡 wired = lists large_8 𝓤 𝓛 𝓜 𝓡 (code.calls-rlsf_malloc::pools::list_in 𝓡.env wired) _ _ _ (code.unfolded 𝓤 𝓛.H 𝓜 𝓡 wired)
+rlsf_large_8_list_spec 𝓤 𝓛 𝓜 𝓡 wired = lists large_8 𝓤 𝓛 𝓜 𝓡 (code.calls-rlsf_malloc_calls::pools::list_in 𝓡.env wired) _ _ _ (code.unfolded 𝓤 𝓛.H 𝓜 𝓡 wired)

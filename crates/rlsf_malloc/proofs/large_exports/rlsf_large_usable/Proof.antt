@@ -6,4 +6,4 @@ use Rattle.rlsf_malloc.proofs.large_exports.rlsf_large_usable.Code as code
 
 pub rlsf_large_usable_spec : {M : Type 1} → statement M
 rlsf_large_usable_spec 𝓤 𝓛 𝓜 𝓡 wired = measures large 𝓤 𝓛 𝓜 𝓡 (code.calls-rlsf_heap::thin::ThinPayload::from_raw 𝓡.env wired)
-    (code.calls-rlsf_malloc::calls::usable 𝓡.env wired) (code.calls-rlsf_malloc::replies::Reply::into_raw 𝓡.env wired) _ _ _ (code.unfolded 𝓤 𝓛.H 𝓜 𝓡 wired)
+    (code.calls-rlsf_malloc_calls::calls::usable 𝓡.env wired) (code.calls-rlsf_malloc_calls::replies::Reply::into_raw 𝓡.env wired) _ _ _ (code.unfolded 𝓤 𝓛.H 𝓜 𝓡 wired)

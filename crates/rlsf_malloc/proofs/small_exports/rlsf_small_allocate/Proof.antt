@@ -5,5 +5,5 @@ use Rattle.rlsf_malloc.proofs.small_exports.rlsf_small_allocate.Statement.{state
 use Rattle.rlsf_malloc.proofs.small_exports.rlsf_small_allocate.Code as code
 
 pub rlsf_small_allocate_spec : {M : Type 1} → statement M
-rlsf_small_allocate_spec 𝓤 𝓛 𝓜 𝓡 wired = allocates small 𝓤 𝓛 𝓜 𝓡 (code.calls-rlsf_malloc::calls::allocate 𝓡.env wired)
+rlsf_small_allocate_spec 𝓤 𝓛 𝓜 𝓡 wired = allocates small 𝓤 𝓛 𝓜 𝓡 (code.calls-rlsf_malloc_calls::calls::allocate 𝓡.env wired)
     (code.calls-rlsf_heap::thin::ThinPayload::into_raw 𝓡.env wired) _ _ _ (code.unfolded 𝓤 𝓛.H 𝓜 𝓡 wired)

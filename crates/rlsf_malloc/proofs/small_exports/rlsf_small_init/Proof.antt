@@ -6,4 +6,4 @@ use Rattle.rlsf_malloc.proofs.small_exports.rlsf_small_init.Code as code
 
 pub rlsf_small_init_spec : {M : Type 1} → statement M
 rlsf_small_init_spec 𝓤 𝓛 𝓜 𝓡 wired = begins small 𝓤 𝓛 𝓜 𝓡 (code.calls-rlsf_base::memory::open_memory::OpenMemory::over_addresses 𝓡.env wired)
-    (code.calls-rlsf_malloc::calls::over 𝓡.env wired) _ (code.unfolded 𝓤 𝓛.H 𝓜 𝓡 wired)
+    (code.calls-rlsf_malloc_calls::calls::over 𝓡.env wired) _ (code.unfolded 𝓤 𝓛.H 𝓜 𝓡 wired)

@@ -1,4 +1,0 @@
-use Rattle.rlsf_malloc.proofs.calls.malloc.Goals as goal
-
-pub returns : goal.returns
-returns g c = c.allocate_for.ensures

@@ -1,7 +1,0 @@
--- The numbers that calls return.
-use Rattle.std.specs.Prelude.{ℕ}
-use Rattle.rlsf_malloc.specs.declared.replies.Reply.{Reply}
-
--- the address of a payload whose size was changed, or 0
-abbrev pub reply_number : Reply → ℕ
-reply_number r = r.number
