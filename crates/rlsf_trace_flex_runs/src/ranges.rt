@@ -6,15 +6,6 @@ ghost use Rattle.rlsf_model.specs.Insert.{IsClear};
 
 use rlsf_base::memory::Range;
 
-/// Whether a range lies in a space.
-fn lies_in(range: Range, space: Range) -> bool
-    ensures { IsTrue result → LiesIn range space.start space.len }
-{
-    space.start <= range.start
-        && range.len <= space.len
-        && range.start - space.start <= space.len - range.len
-}
-
 /// Whether a range ends where another begins, or before.
 fn ends_before(one: Range, other: Range) -> bool
     ensures { IsTrue result → end_of one ≤ other.start }
@@ -41,7 +32,7 @@ pub(crate) fn hand_out(taken: &mut Vec<Range>, space: Range, range: Range) -> bo
     ensures given { IsTrue result → LiesIn range space.start space.len × IsClear range taken.old.items × (taken.new.items ≡ taken.old.items ++ range ∷ []) }
     ensures refused { IsFalse result → taken.new.items ≡ taken.old.items }
 {
-    if !lies_in(range, space) {
+    if !range.lies_in(space) {
         return false;
     }
     if !is_clear(range, taken) {

@@ -1,7 +1,7 @@
 //! The part of a memory that ops name.
 
-ghost use Rattle.std.specs.Prelude.{◌≡◌, ◌+◌, ◌^◌, ◌<◌, ◌≤◌, IsTrue, ◌↔◌};
-ghost use Rattle.rlsf_base.specs.Range.{end_of, LiesIn};
+ghost use Rattle.std.specs.Prelude.{◌≡◌, ◌+◌, ◌^◌, ◌<◌, ◌≤◌};
+ghost use Rattle.rlsf_base.specs.Range.{end_of};
 ghost use Rattle.rlsf_trace_runs.specs.Parts.{CoversOp, IsPartFor, range_named};
 
 use rlsf_base::memory::Range;
@@ -33,21 +33,12 @@ fn widened(memory: Range, part: (usize, usize), op: Op) -> (usize, usize)
     ensures covers { CoversOp memory result.0 result.1 op }
 {
     match range_named(op) {
-        Some(range) if lies_in(memory, range) => {
+        Some(range) if range.lies_in(memory) => {
             let end = range.start + range.len;
             (part.0.min(range.start), part.1.max(end))
         }
         _ => part,
     }
-}
-
-fn lies_in(memory: Range, range: Range) -> bool
-    requires { end_of memory < 2 ^ 64 }
-    ensures { IsTrue result ↔ LiesIn range memory.start memory.len }
-{
-    range.start >= memory.start
-        && range.len <= memory.len
-        && range.start - memory.start <= memory.len - range.len
 }
 
 fn range_named(op: Op) -> Option<Range>

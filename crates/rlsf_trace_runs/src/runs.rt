@@ -46,9 +46,10 @@ impl From<AllocError> for RunError {
 pub(crate) fn lies_in(memory: &Memory, range: Range) -> bool
     ensures { IsTrue result ↔ LiesIn range memory.now.start (length memory.now.bytes) }
 {
-    let start = memory.start();
-    let len = memory.len();
-    range.start >= start && range.len <= len && range.start - start <= len - range.len
+    range.lies_in(Range {
+        start: memory.start(),
+        len: memory.len(),
+    })
 }
 
 // Whether the range lies in the memory, and overlaps no pool.

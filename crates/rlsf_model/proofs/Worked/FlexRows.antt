@@ -20,7 +20,8 @@ call event notes = record { event = event; notes = notes }
 
 -- These calls with their replies and notes lead from the empty state to a state. It has these used blocks, the newest first, these free
 -- ranges and these ranges of the source, of which this is kept. At the end the source is passed these ranges
-pub record GivesWith (fllen sllen : ℕ) (t : Terms) (calls : List FlexEvent) (used : List Block) (free pools : List Range) (kept : Option KeptPool) (at_end : List Note) : Type 0 where
+pub record GivesWith (fllen sllen : ℕ) (t : Terms) (calls : List FlexEvent) (used : List Block) (free pools : List Range) (kept : Option KeptPool)
+    (at_end : List Note) : Type 0 where
   pub after : FlexState
   pub run : RunsWith fllen sllen t flex_empty calls after
   pub used_is : seen after.machine.used ≡ used

@@ -126,7 +126,8 @@ invariant_of-self-then-extend g c =
     let is = c.move_payload.ensures in
     let (notes, step, leads_by, outside, stands) =
     flex_opened _ _ _ (reallocation_in_more (at c.args.addr) c.args.layout.size c.args.layout.align g.S.FlexSource.leads (flex_over c.self.inside.parts) stuck is_align first
-    (sym c.in_ok-wanted.ensures) c.if-extend.ensures.step c.self.invariant.valid c.move_payload.new.tlsf refl is.place c.self.invariant.whole c.move_payload.result is.refused is.step) in
+    (sym c.in_ok-wanted.ensures) c.if-extend.ensures.step c.self.invariant.valid c.move_payload.new.tlsf refl is.place c.self.invariant.whole c.move_payload.result
+    is.refused is.step) in
     record {
       valid = c.self.invariant.valid;
       stands = stands;
