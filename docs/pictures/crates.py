@@ -32,9 +32,9 @@ LAYERS = [
          (1, "rlsf_example_global", "two threads, one GlobalTlsf"), (1, "rlsf_example_real_time", "a thread that never waits")],
     ]),
     ("Libraries", "for other code, but for the lemmas", "#fff3d0", [
-        [(1, "rlsf_malloc_calls", "calls of a heap for C"), (1, "rlsf_malloc", "static library for C: payloads are pointers")],
-        [(1, "rlsf_c_lemmas", "proofs of C's exports: their template"), (1, "rlsf_pool", "static library for C: pools of numbers"),
-         (1, "rlsf_example_libraries", "queues, objects and strings in a pool")],
+        [(1, "rlsf_pool_calls", "calls of a pool for C"), (1, "rlsf_pool", "static library for C: pools of numbers"),
+         (1, "rlsf_malloc_calls", "calls of a heap for C"), (1, "rlsf_malloc", "static library for C: payloads are pointers")],
+        [(1, "rlsf_c_lemmas", "proofs of C's exports: their template"), (1, "rlsf_example_libraries", "queues, objects and strings in a pool")],
     ]),
     ("Traces", "a text of calls, run and compared with the model", "#fbe3d6", [
         [(1, "rlsf_replay", "program: prints the answers"), (1, "rlsf_report_trace", "program: counts"), (1, "rlsf_draw_trace", "program: draws")],

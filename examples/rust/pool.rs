@@ -67,7 +67,7 @@ impl Kind {
 
 /// A pool. It may move to another thread. Each call borrows it exclusively, so one call at a time runs.
 pub struct Pool { at: NonNull<u8>, layout: Layout }
-// SAFETY: crates/rlsf_pool proves it of what lies at the handle.
+// SAFETY: crates/rlsf_pool_calls proves it of what lies at the handle.
 unsafe impl Send for Pool {}
 
 impl Pool {

@@ -1,5 +1,2 @@
--- Lemmas, and what the exports return.
-pub mod Outcomes
+-- What the exports return.
 pub mod Results
-pub mod Rewritten
-pub mod Zero

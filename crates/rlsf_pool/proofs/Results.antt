@@ -1,15 +1,15 @@
 -- What the exports return, other than numbers, and what lies behind their handle.
 use Rattle.rlsf_c_lemmas.proofs.Contracts.{Returned}
-use Rattle.rlsf_pool.specs.contracts.answers.Answer as an_answer
-use Rattle.rlsf_pool.specs.contracts.answers.BlockAnswer as a_block
+use Rattle.rlsf_pool_calls.specs.contracts.answers.Answer as an_answer
+use Rattle.rlsf_pool_calls.specs.contracts.answers.BlockAnswer as a_block
 use Rattle.rlsf_blocks.specs.contracts.totals.Totals as the_totals
-use Rattle.rlsf_pool.specs.contracts.pool.Pool as a_pool
-use Rattle.rlsf_pool.specs.contracts.space.OffsetSpace as a_space
-use Rattle.rlsf_pool.proofs.answers.Answer.TheLaws as answer_laws
-use Rattle.rlsf_pool.proofs.answers.BlockAnswer.TheLaws as block_laws
+use Rattle.rlsf_pool_calls.specs.contracts.pool.Pool as a_pool
+use Rattle.rlsf_pool_calls.specs.contracts.space.OffsetSpace as a_space
+use Rattle.rlsf_pool_calls.proofs.answers.Answer.TheLaws as answer_laws
+use Rattle.rlsf_pool_calls.proofs.answers.BlockAnswer.TheLaws as block_laws
 use Rattle.rlsf_blocks.proofs.totals.Totals.TheLaws as totals_laws
-use Rattle.rlsf_pool.proofs.pool.Pool.TheLaws as pool_laws
-use Rattle.rlsf_pool.proofs.space.OffsetSpace.TheLaws as space_laws
+use Rattle.rlsf_pool_calls.proofs.pool.Pool.TheLaws as pool_laws
+use Rattle.rlsf_pool_calls.proofs.space.OffsetSpace.TheLaws as space_laws
 use seplogic.Ra.Ura.{Ura}
 use types.Logic.{Logic}
 

@@ -5,10 +5,10 @@ use Rattle.std.specs.Prelude.{ℕ}
 use base.Fml.{fex}
 use prog.Memory.{size}
 use denote.Param.{layout}
-use Rattle.rlsf_pool.specs.Seen.{PoolValue}
-use Rattle.rlsf_pool.specs.Spaces.{SpaceValue}
-use Rattle.rlsf_pool.specs.contracts.pool.Pool.{the_row}
-use Rattle.rlsf_pool.specs.contracts.space.OffsetSpace.{the_row as the_space}
+use Rattle.rlsf_pool_calls.specs.Seen.{PoolValue}
+use Rattle.rlsf_pool_calls.specs.Spaces.{SpaceValue}
+use Rattle.rlsf_pool_calls.specs.contracts.pool.Pool.{the_row}
+use Rattle.rlsf_pool_calls.specs.contracts.space.OffsetSpace.{the_row as the_space}
 
 -- a pool lies at the handle
 abbrev pub HoldsPool : Ptr → PoolValue → Fml

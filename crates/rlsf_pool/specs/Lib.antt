@@ -1,8 +1,2 @@
--- Definitions for the library of pools of numbers. Read `Seen`, `Calls` and `Handle` first; of spaces, `Spaces`.
-pub mod Answers
-pub mod Calls
+-- Definitions for the library of pools of numbers, besides those of `rlsf_pool_calls`.
 pub mod Handle
-pub mod Lengths
-pub mod Seen
-pub mod Spaces
-pub mod Walks

@@ -1,32 +1,25 @@
 //! The allocator for C and Rust programs: calls over a handle that holds a pool. `include/rlsf_pool.h` declares them.
 //!
-//! Every call accepts any numbers, and returns an error for wrong ones. Read `specs/Seen` (a pool as contracts see it), `specs/Calls` and
-//! `specs/Handle` first, then this file, which has the exports. `pool.rt` has the two kinds of pools, and `calls.rt` the calls of one kind.
-//! `lengths.rt` computes lengths of pools, `walks.rt` describes blocks by numbers, and `answers.rt` has the returned values.
-//! `offsets.rt` has the exports of `include/rlsf_offsets.h`, and `space.rt` their calls, with definitions in `specs/Spaces`.
-//! `rlsf_c_lemmas` has the template of the exports' proofs.
+//! Every call accepts any numbers, and returns an error for wrong ones. Read `specs/Seen` (a pool as contracts see it) and `specs/Calls` of
+//! `rlsf_pool_calls` first, which has the calls that the exports make. Then read `specs/Handle`, and this file, which has the exports.
+//! `offsets.rt` has the exports of `include/rlsf_offsets.h`. `rlsf_c_lemmas` has the template of the exports' proofs.
 #![tactic(auto)]
 
 ghost use Rattle.std.specs.Borrow.{sem};
 ghost use Rattle.std.specs.Prelude.{◌≡◌};
 ghost use Rattle.rlsf_base.specs.Range.{range_at};
-ghost use Rattle.rlsf_pool.specs.Calls.{PoolAllocates, PoolAllocatesZeroed, PoolAppends, PoolCopies, PoolFrees, PoolInserts, Reads, RemovesLast, RemovesRange, PoolResizes, PoolResizesThere, Tells, PoolWrites};
 ghost use Rattle.rlsf_pool.specs.Handle.{HasRoomForPool, HoldsPool, HoldsSomePool, room_size};
-ghost use Rattle.rlsf_pool.specs.Lengths.{IsLengthForAllocation, IsLengthForBudget, IsLengthForPayloads};
-ghost use Rattle.rlsf_pool.specs.Seen.{IsMade, IsReset, PoolValue, append_result, ended, insert_result, seen, status_of};
-ghost use Rattle.rlsf_pool.specs.Walks.{IsPoolListing, IsNextBlock, IsSummary};
+ghost use Rattle.rlsf_pool_calls.specs.Calls.{PoolAllocates, PoolAllocatesZeroed, PoolAppends, PoolCopies, PoolFrees, PoolInserts, Reads, RemovesLast, RemovesRange, PoolResizes, PoolResizesThere, Tells, PoolWrites};
+ghost use Rattle.rlsf_pool_calls.specs.Lengths.{IsLengthForAllocation, IsLengthForBudget, IsLengthForPayloads};
+ghost use Rattle.rlsf_pool_calls.specs.Seen.{IsMade, IsReset, PoolValue, append_result, ended, insert_result, seen, status_of};
+ghost use Rattle.rlsf_pool_calls.specs.Walks.{IsPoolListing, IsNextBlock, IsSummary};
 
-mod answers;
-mod calls;
-mod lengths;
 mod offsets;
-mod pool;
-mod space;
-mod walks;
 
-use answers::{Answer, BlockAnswer};
-use pool::{Pool, discard, finish, reset};
 use rlsf_blocks::Totals;
+use rlsf_pool_calls::answers::{Answer, BlockAnswer};
+use rlsf_pool_calls::lengths;
+use rlsf_pool_calls::pool::{Pool, discard, finish, reset};
 use std::alloc::Global;
 use std::mem::size_of;
 

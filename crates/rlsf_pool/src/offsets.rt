@@ -3,11 +3,11 @@
 ghost use Rattle.std.specs.Borrow.{sem};
 ghost use Rattle.std.specs.Prelude.{◌≡◌};
 ghost use Rattle.rlsf_pool.specs.Handle.{HasRoomForSpace, HoldsSomeSpace, HoldsSpace, space_size};
-ghost use Rattle.rlsf_pool.specs.Spaces.{AllocatesIn, FreesIn, GrowsIn, IsSpaceMade, ResizesIn, SpaceValue, TellsIn, TotalsIn, ended_space, space_status, space_units};
+ghost use Rattle.rlsf_pool_calls.specs.Spaces.{AllocatesIn, FreesIn, GrowsIn, IsSpaceMade, ResizesIn, SpaceValue, TellsIn, TotalsIn, ended_space, space_status, space_units};
 
-use crate::answers::Answer;
-use crate::space::{OffsetSpace, discard, finish};
 use rlsf_blocks::Totals;
+use rlsf_pool_calls::answers::Answer;
+use rlsf_pool_calls::space::{OffsetSpace, discard, finish};
 use std::alloc::Global;
 use std::mem::size_of;
 

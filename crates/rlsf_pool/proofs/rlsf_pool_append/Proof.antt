@@ -3,16 +3,16 @@ use Rattle.rlsf_c_lemmas.proofs.Contracts.{changes}
 use Rattle.rlsf_c_lemmas.proofs.Exports.{exports2}
 use Rattle.rlsf_base.specs.Range.{range_at}
 use Rattle.rlsf_pool.proofs.Results.{answer}
-use Rattle.rlsf_pool.specs.Calls.{PoolAppends}
-use Rattle.rlsf_pool.specs.Seen.{append_result, seen}
+use Rattle.rlsf_pool_calls.specs.Calls.{PoolAppends}
+use Rattle.rlsf_pool_calls.specs.Seen.{append_result, seen}
 use Rattle.rlsf_pool.specs.contracts.rlsf_pool_append as f
 use Rattle.rlsf_pool.proofs.rlsf_pool_append.Statement.{statement}
 use Rattle.rlsf_pool.proofs.rlsf_pool_append.Code as code
-use Rattle.rlsf_pool.specs.contracts.pool.Pool.{the_row}
-use Rattle.rlsf_pool.specs.contracts.pool.Pool.append as g
-use Rattle.rlsf_pool.proofs.pool.Pool.append.Met.{met}
+use Rattle.rlsf_pool_calls.specs.contracts.pool.Pool.{the_row}
+use Rattle.rlsf_pool_calls.specs.contracts.pool.Pool.append as g
+use Rattle.rlsf_pool_calls.proofs.pool.Pool.append.Met.{met}
 
 pub rlsf_pool_append_spec : {M : Type 1} → statement M
 rlsf_pool_append_spec 𝓤 𝓛 𝓜 𝓡 wired =
     exports2 𝓛 𝓜 𝓡 the_row (answer 𝓛) (changes (λ before x e r after. PoolAppends (append_result before (range_at x.0 x.1.0)) (seen before) r (seen after))) g.Key.name f.Key.name
-    (met 𝓤 𝓛 𝓜 𝓡 (code.calls-rlsf_pool::pool::Pool::append 𝓡.env wired)) (code.unfolded 𝓤 𝓛.H 𝓜 𝓡 wired)
+    (met 𝓤 𝓛 𝓜 𝓡 (code.calls-rlsf_pool_calls::pool::Pool::append 𝓡.env wired)) (code.unfolded 𝓤 𝓛.H 𝓜 𝓡 wired)

@@ -15,16 +15,16 @@ use denote.RawPtr.{room_at}
 use Rattle.std_heap.proofs.Handle.{heap_val, heap_Tells}
 use Rattle.std_heap.specs.contracts.Global.{the_row as Heap}
 use Rattle.rlsf_pool.specs.Handle.{SomePool}
-use Rattle.rlsf_pool.specs.Seen.{PoolValue, IsMade, status_of}
+use Rattle.rlsf_pool_calls.specs.Seen.{PoolValue, IsMade, status_of}
 use Rattle.rlsf_pool.specs.contracts.rlsf_pool_init as f
 use Rattle.rlsf_pool.proofs.rlsf_pool_init.Statement.{statement}
 use Rattle.rlsf_pool.proofs.rlsf_pool_init.Code as code
-use Rattle.rlsf_pool.specs.contracts.pool.Pool.{the_row as R}
-use Rattle.rlsf_pool.proofs.pool.Pool.TheLaws as laws
-use Rattle.rlsf_pool.specs.contracts.pool.Pool.new as n
-use Rattle.rlsf_pool.proofs.pool.Pool.new.Met.{met as new_met}
-use Rattle.rlsf_pool.specs.contracts.pool.Pool.status as g
-use Rattle.rlsf_pool.proofs.pool.Pool.status.Met.{met}
+use Rattle.rlsf_pool_calls.specs.contracts.pool.Pool.{the_row as R}
+use Rattle.rlsf_pool_calls.proofs.pool.Pool.TheLaws as laws
+use Rattle.rlsf_pool_calls.specs.contracts.pool.Pool.new as n
+use Rattle.rlsf_pool_calls.proofs.pool.Pool.new.Met.{met as new_met}
+use Rattle.rlsf_pool_calls.specs.contracts.pool.Pool.status as g
+use Rattle.rlsf_pool_calls.proofs.pool.Pool.status.Met.{met}
 
 abbrev stayed : Stays f.ended.signature.params f.ended.kept
 stayed = (stay_dropped _ yes, (stay_dropped _ yes, (stay_dropped _ yes, (stay_dropped _ yes, (stay_dropped _ yes, tt)))))
@@ -59,7 +59,7 @@ rlsf_pool_init_spec 𝓤 𝓛 𝓜 𝓡 wired =
     move ! (1 ∷ []) $ nothing ! $ owned ! usize _ (uint_Makes 𝓛 w64) z' _ (refl, are.1.1.1.1.0.1) $ join ! $ owned ! usize _ (uint_Makes 𝓛 w64) y' _ (refl, are.1.1.1.0.1) $
     join ! $ owned ! usize _ (uint_Makes 𝓛 w64) x _ (refl, are.1.1.0.1) $ join ! $ move ! (1 ∷ 0 ∷ []) $ join ! $ nothing ! $ join ! $ nothing ! $
     move ! (1 ∷ 0 ∷ []) $ use2 𝓛 (raw (N.pre m)) (id⊢ 𝓤 _) $
-    calls_at ! (framed 𝓤 𝓛.H 𝓜 (tables 𝓤 𝓛.H 𝓜 𝓡 𝓡.env)) N (new_met 𝓤 𝓛 𝓜 𝓡 (code.calls-rlsf_pool::pool::Pool::new 𝓡.env wired)) m
+    calls_at ! (framed 𝓤 𝓛.H 𝓜 (tables 𝓤 𝓛.H 𝓜 𝓡 𝓡.env)) N (new_met 𝓤 𝓛 𝓜 𝓡 (code.calls-rlsf_pool_calls::pool::Pool::new 𝓡.env wired)) m
     (and_then ! (get ! refl) (and_then ! (get ! refl) (and_then ! (get ! refl) (and_then ! (get ! refl) (no_more !))))) (λ w.
     use1 𝓛 (later (some (λ (made : PoolValue). (‵ ftrue ⊛ ‵ (R.own_val made (w ∷ []))) ⊛
     some (λ (ws : Unit {0} × (Unit {0} × (Unit {0} × (Unit {0} × Unit {0})))). ‵ (lasts n.ended m.0.0 m.0.3 ws) ⊛ raw (fact 𝓤 (IsMade x y' z' made))))))
@@ -81,7 +81,7 @@ rlsf_pool_init_spec 𝓤 𝓛 𝓜 𝓡 wired =
     let y : G.Ghost = (((α ∷ [], tt), (full_share, tt), tt, (record { ref_ptr = (b, o); ghost_name = γ; now = made }, tt), (vptr b o ∷ [], tt)), tt) in
     nothing ! $ move ! (1 ∷ 0 ∷ []) $ join ! $ nothing ! $ move ! (3 ∷ 0 ∷ []) $ join ! $ join ! $ nothing ! $ move ! (1 ∷ 0 ∷ []) $
     use2 𝓛 (raw (G.pre y)) (id⊢ 𝓤 _) $
-    calls_at ! (framed 𝓤 𝓛.H 𝓜 (tables 𝓤 𝓛.H 𝓜 𝓡 𝓡.env)) G (met 𝓤 𝓛 𝓜 𝓡 (code.calls-rlsf_pool::pool::Pool::status 𝓡.env wired)) y
+    calls_at ! (framed 𝓤 𝓛.H 𝓜 (tables 𝓤 𝓛.H 𝓜 𝓡 𝓡.env)) G (met 𝓤 𝓛 𝓜 𝓡 (code.calls-rlsf_pool_calls::pool::Pool::status 𝓡.env wired)) y
     (and_then ! (get ! refl) (no_more !)) (λ v.
     use1 𝓛 (later (some (λ (r : ℕ). ((‵ (flft (α ∷ []) full_share) ⊛ ‵ ftrue) ⊛ ‵ (usize.own_val r (v ∷ []))) ⊛
     some (λ (ws : PoolValue × Unit {0}). ‵ (lasts g.ended y.0.0 y.0.3 ws) ⊛ raw (fact 𝓤 ((r ≡ status_of made) × (ws.0 ≡ made))))))) (id⊢ 𝓤 _) $

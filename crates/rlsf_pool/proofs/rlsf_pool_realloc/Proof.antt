@@ -2,16 +2,16 @@
 use Rattle.rlsf_c_lemmas.proofs.Contracts.{changes}
 use Rattle.rlsf_c_lemmas.proofs.Exports.{exports2}
 use Rattle.rlsf_pool.proofs.Results.{answer}
-use Rattle.rlsf_pool.specs.Calls.{PoolResizes}
-use Rattle.rlsf_pool.specs.Seen.{seen}
+use Rattle.rlsf_pool_calls.specs.Calls.{PoolResizes}
+use Rattle.rlsf_pool_calls.specs.Seen.{seen}
 use Rattle.rlsf_pool.specs.contracts.rlsf_pool_realloc as f
 use Rattle.rlsf_pool.proofs.rlsf_pool_realloc.Statement.{statement}
 use Rattle.rlsf_pool.proofs.rlsf_pool_realloc.Code as code
-use Rattle.rlsf_pool.specs.contracts.pool.Pool.{the_row}
-use Rattle.rlsf_pool.specs.contracts.pool.Pool.realloc as g
-use Rattle.rlsf_pool.proofs.pool.Pool.realloc.Met.{met}
+use Rattle.rlsf_pool_calls.specs.contracts.pool.Pool.{the_row}
+use Rattle.rlsf_pool_calls.specs.contracts.pool.Pool.realloc as g
+use Rattle.rlsf_pool_calls.proofs.pool.Pool.realloc.Met.{met}
 
 pub rlsf_pool_realloc_spec : {M : Type 1} → statement M
 rlsf_pool_realloc_spec 𝓤 𝓛 𝓜 𝓡 wired =
     exports2 𝓛 𝓜 𝓡 the_row (answer 𝓛) (changes (λ before x e r after. PoolResizes (seen before) x.0 x.1.0 r (seen after))) g.Key.name f.Key.name
-    (met 𝓤 𝓛 𝓜 𝓡 (code.calls-rlsf_pool::pool::Pool::realloc 𝓡.env wired)) (code.unfolded 𝓤 𝓛.H 𝓜 𝓡 wired)
+    (met 𝓤 𝓛 𝓜 𝓡 (code.calls-rlsf_pool_calls::pool::Pool::realloc 𝓡.env wired)) (code.unfolded 𝓤 𝓛.H 𝓜 𝓡 wired)

@@ -5,7 +5,7 @@ use Rattle.rlsf_c_lemmas.proofs.Walking.{and_then, returns, alloc_all, pass_all,
 use Rattle.rlsf_c_lemmas.proofs.Walking.{in_a_block, rawptr_vals, rawptr_Tells, plain, nothing, peeks, calls_at, lasts, on_entry, triple_of, Stays, walk_of, stay_dropped}
 use Rattle.rlsf_c_lemmas.proofs.Walking.{Goes-dropped}
 use Rattle.rlsf_c_lemmas.proofs.Walking.{◌≡◌, ends_at, fact, framed, heard}
-use Rattle.rlsf_pool.specs.Seen.{ended}
+use Rattle.rlsf_pool_calls.specs.Seen.{ended}
 use base.Fml.{fat}
 use types.Run.{forget, load, look, unit_lit}
 use borrow.Table.OneValue.{part_out}
@@ -16,10 +16,10 @@ use denote.Triple.Clauses.{Lasts}
 use Rattle.rlsf_pool.specs.contracts.rlsf_pool_room as f
 use Rattle.rlsf_pool.proofs.rlsf_pool_room.Statement.{statement}
 use Rattle.rlsf_pool.proofs.rlsf_pool_room.Code as code
-use Rattle.rlsf_pool.specs.contracts.pool.Pool.{the_row as R}
-use Rattle.rlsf_pool.proofs.pool.Pool.TheLaws as laws
-use Rattle.rlsf_pool.specs.contracts.pool.discard as g
-use Rattle.rlsf_pool.proofs.pool.discard.Met.{met}
+use Rattle.rlsf_pool_calls.specs.contracts.pool.Pool.{the_row as R}
+use Rattle.rlsf_pool_calls.proofs.pool.Pool.TheLaws as laws
+use Rattle.rlsf_pool_calls.specs.contracts.pool.discard as g
+use Rattle.rlsf_pool_calls.proofs.pool.discard.Met.{met}
 
 abbrev stayed : Stays f.ended.signature.params f.ended.kept
 stayed = (stay_dropped _ yes, tt)
@@ -44,7 +44,7 @@ rlsf_pool_room_spec 𝓤 𝓛 𝓜 𝓡 wired =
     let G = triple_of 𝓛 g.signature (g.spec 𝓛 𝓜.mem 𝓡.returns) in
     let y : G.Ghost = ((tt, tt, tt, (before, tt), (v ∷ [], tt)), tt) in
     nothing ! $ move ! (1 ∷ 0 ∷ []) $ join ! $ nothing ! $ join ! $ nothing ! $ move ! (1 ∷ 0 ∷ []) $ use2 𝓛 (raw (G.pre y)) (id⊢ 𝓤 _) $
-    calls_at ! (framed 𝓤 𝓛.H 𝓜 (tables 𝓤 𝓛.H 𝓜 𝓡 𝓡.env)) G (met 𝓤 𝓛 𝓜 𝓡 (code.calls-rlsf_pool::pool::discard 𝓡.env wired)) y
+    calls_at ! (framed 𝓤 𝓛.H 𝓜 (tables 𝓤 𝓛.H 𝓜 𝓡 𝓡.env)) G (met 𝓤 𝓛 𝓜 𝓡 (code.calls-rlsf_pool_calls::pool::discard 𝓡.env wired)) y
     (and_then ! (get ! refl) (no_more !)) (λ u.
     use1 𝓛 (later (some (λ (r : Unit {0}). (‵ ftrue ⊛ ‵ (unit.own_val r (u ∷ []))) ⊛
     some (λ (ws : Lasts g.ended tt (before, tt)). ‵ (lasts g.ended y.0.0 y.0.3 ws) ⊛ ‵ ftrue)))) (id⊢ 𝓤 _) $
