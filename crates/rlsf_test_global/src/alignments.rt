@@ -3,9 +3,9 @@
 //! A payload lies at the first multiple of its alignment at least 16 bytes behind the start of its block. What lies before it belongs to the
 //! block.
 
-use crate::shared::all_go_so;
+use crate::runs::all_go_so;
 use crate::steps::{Run, Step, UNKNOWN_ADDRESS, WRONG_LAYOUT};
-use rlsf_global::SmallGlobalTlsfOptions;
+use rlsf_global::{GlobalTlsf, SmallGlobalTlsfOptions};
 
 /// Blocks at 65536, 65632 and 69632, the last of which begins in the first page and ends in the second. Each payload grows in its block first,
 /// and then moves behind all others, to blocks at 131200, 131328 and 135200.
@@ -98,6 +98,6 @@ static IN_POOLS_APART: [Run; 1] = [(
 
 #[test]
 fn payloads_lie_at_multiples_of_their_alignments(rt: HostRuntime) {
-    all_go_so::<_, ()>(&rt, rt.alloc(), &IN_ONE_POOL);
-    all_go_so::<_, SmallGlobalTlsfOptions>(&rt, rt.alloc(), &IN_POOLS_APART);
+    all_go_so::<_, GlobalTlsf<()>>(&rt, rt.alloc(), &IN_ONE_POOL);
+    all_go_so::<_, GlobalTlsf<SmallGlobalTlsfOptions>>(&rt, rt.alloc(), &IN_POOLS_APART);
 }

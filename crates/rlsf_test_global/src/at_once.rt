@@ -1,14 +1,14 @@
 //! Calls of several threads at once: none is refused because another thread is in, and each is one step for the others.
 
-use crate::answers::all;
+use crate::answers::{all, memory};
 use crate::journal::over;
-use crate::payloads::Shared;
-use rlsf_base::memory::{Addr, Layout, Memory};
+use crate::payloads::{Shared, allocated};
+use rlsf_base::memory::{Addr, Layout};
 use rlsf_global::{CAlloc, GlobalError, GlobalTlsf, GlobalTlsfOptions, SmallGlobalTlsfOptions};
-use std::alloc::{AllocError, Global};
+use std::alloc::Global;
+use std::process::Abort;
 use std::sync::Wait;
 use std::sync::atomic::{AtomicBool, Ordering};
-use std::test::Fail;
 use std::thread;
 use std::thread::Threads;
 
@@ -17,26 +17,48 @@ const THREADS: usize = 4;
 
 const ROUNDS: usize = 500;
 
+/// Makes a payload of 40 bytes longer and shorter again, reads it, and deallocates it. Returns whether it has the bytes that it had.
+fn keeps_its_bytes<R: Wait, Options: GlobalTlsfOptions>(
+    rt: &R,
+    shared: &GlobalTlsf<Options>,
+    first: Addr,
+    mark: u8,
+) -> Result<bool, GlobalError> {
+    let layout = Layout::from_size_align_unchecked(40, 8);
+    let longer = Layout::from_size_align_unchecked(100, 8);
+    let mut found = [0; 40];
+    let second = shared.realloc(rt, first, layout, 100)?;
+    let third = shared.reallocate_no_move(rt, second, longer, 40)?;
+    shared.read_payload(rt, third, 0, &mut found)?;
+    shared.dealloc(rt, third, layout)?;
+    Ok(found == [mark; 40])
+}
+
+/// Allocates a payload, reallocates it and deallocates it, by its address.
+fn by_address<R: Wait, Options: GlobalTlsfOptions>(
+    rt: &R,
+    shared: &GlobalTlsf<Options>,
+) -> Result<(), GlobalError> {
+    let layout = Layout::from_size_align_unchecked(40, 8);
+    let longer = Layout::from_size_align_unchecked(100, 8);
+    let other = shared.allocate(rt, layout)?;
+    let other = shared.reallocate(rt, other, longer)?;
+    shared.deallocate(rt, other)?;
+    Ok(())
+}
+
 /// Makes each call on payloads of one's own. Returns whether the first has 48 usable bytes, and a longer one the bytes that it had.
 fn round<R: Wait, Options: GlobalTlsfOptions>(
     rt: &R,
     shared: &GlobalTlsf<Options>,
     mark: u8,
 ) -> Result<bool, GlobalError> {
-    let layout = Layout::from_size_align_unchecked(40, 8);
-    let longer = Layout::from_size_align_unchecked(100, 8);
-    let mut found = [0; 40];
-    let first = shared.alloc(rt, layout)?;
+    let first = shared.alloc(rt, Layout::from_size_align_unchecked(40, 8))?;
     shared.write_payload(rt, first, 0, &[mark; 40])?;
     let usable = shared.allocation_usable_size(rt, first)?;
-    let second = shared.realloc(rt, first, layout, 100)?;
-    let third = shared.reallocate_no_move(rt, second, longer, 40)?;
-    shared.read_payload(rt, third, 0, &mut found)?;
-    shared.dealloc(rt, third, layout)?;
-    let other = shared.allocate(rt, layout)?;
-    let other = shared.reallocate(rt, other, longer)?;
-    shared.deallocate(rt, other)?;
-    Ok(usable == 48 && found == [mark; 40])
+    let is_kept = keeps_its_bytes(rt, shared, first, mark)?;
+    by_address(rt, shared)?;
+    Ok(usable == 48 && is_kept)
 }
 
 /// How many rounds of a thread go as they should, one after another.
@@ -53,30 +75,29 @@ fn rounds<R: Wait, Options: GlobalTlsfOptions>(
     ROUNDS
 }
 
-/// How many rounds of each of four threads go as they should.
-fn of_four<R: Threads + Wait + Sync, Options: GlobalTlsfOptions + Send>(
+/// Whether all rounds of four threads go as they should.
+fn of_four<R: Abort + Threads + Wait + Sync, Options: GlobalTlsfOptions + Send>(
     rt: &R,
     alloc: Global,
-    shared: &GlobalTlsf<Options>,
-) -> Result<Vec<usize>, AllocError> {
-    thread::map_indices(rt, alloc, THREADS, &|index| rounds(rt, shared, index as u8))
+) -> bool {
+    let shared = GlobalTlsf::<Options>::new(alloc, memory(rt, alloc, 131072));
+    let done = thread::map_indices(
+        rt,
+        alloc,
+        THREADS,
+        &|index| { rounds(rt, &shared, index as u8) },
+    );
+    done.expect(rt, "threads").as_slice() == [ROUNDS; THREADS].as_slice()
 }
 
 // The memory has room for all payloads of all threads, so a call is refused only if it doesn't wait for the lock.
 #[test]
-fn no_call_is_refused_while_another_thread_is_in(rt: HostRuntime) -> Result<(), Fail> {
-    let memory = Memory::new(rt.alloc(), 65536, 131072)?;
-    let shared = GlobalTlsf::<()>::new(rt.alloc(), memory);
-    let done = of_four(&rt, rt.alloc(), &shared)?;
-    let memory = Memory::new(rt.alloc(), 65536, 131072)?;
-    let small = GlobalTlsf::<SmallGlobalTlsfOptions>::new(rt.alloc(), memory);
-    let done_by_small = of_four(&rt, rt.alloc(), &small)?;
+fn no_call_is_refused_while_another_thread_is_in(rt: HostRuntime) {
     let answers = [
-        done.iter().all(|rounds| *rounds == ROUNDS),
-        done_by_small.iter().all(|rounds| *rounds == ROUNDS),
+        of_four::<_, ()>(&rt, rt.alloc()),
+        of_four::<_, SmallGlobalTlsfOptions>(&rt, rt.alloc()),
     ];
     all(&rt, &answers);
-    Ok(())
 }
 
 /// How many bytes a payload has that two threads write and read.
@@ -111,7 +132,7 @@ fn byte_of_one_write<R: Wait>(rt: &R, shared: &impl Shared, addr: Addr) -> Optio
     let mut bytes = [0; LEN];
     let is_read = shared.read(rt, addr, 0, &mut bytes).is_ok();
     let first = bytes[0];
-    if is_read && bytes.iter().all(|byte| *byte == first) {
+    if is_read && bytes == [first; LEN] {
         Some(first)
     } else {
         None
@@ -160,21 +181,28 @@ fn is_one_step<R: Threads + Wait + Sync>(
     ends == (true, true)
 }
 
-#[test]
-fn a_reader_sees_all_of_a_write_or_nothing(rt: HostRuntime) -> Result<(), Fail> {
+/// Whether it does so in a `GlobalTlsf`.
+fn is_one_step_shared<R: Abort + Threads + Wait + Sync>(rt: &R, alloc: Global) -> bool {
+    let shared = GlobalTlsf::<()>::new(alloc, memory(rt, alloc, 65536));
+    let addr = shared.alloc(rt, Layout::from_size_align_unchecked(LEN, 8));
+    is_one_step(rt, &shared, addr.expect(rt, "a payload"))
+}
+
+/// Whether it does so in a `Journaled`.
+fn is_one_step_journaled<R: Abort + Threads + Wait + Sync>(rt: &R, alloc: Global) -> bool {
     let layout = Layout::from_size_align_unchecked(LEN, 8);
-    let shared = GlobalTlsf::<()>::new(rt.alloc(), Memory::new(rt.alloc(), 65536, 65536)?);
-    let addr = shared.alloc(&rt, layout)?;
-    all(&rt, &[is_one_step(&rt, &shared, addr)]);
-    let (journaled, mut passes) = over(rt.alloc(), 65536, 1)?;
-    if let Some(pass) = passes.first_mut() {
-        if pass.caller() < journaled.callers() {
-            let addr = journaled.allocate(&rt, pass, layout)?;
-            all(&rt, &[is_one_step(&rt, &journaled, addr)]);
-            return Ok(());
-        }
-    }
-    Err(Fail::new("a pass"))
+    let (journaled, mut passes) = over(rt, alloc, 65536, 1);
+    let addr = allocated(rt, &journaled, &mut passes, layout);
+    is_one_step(rt, &journaled, addr.expect(rt, "a payload"))
+}
+
+#[test]
+fn a_reader_sees_all_of_a_write_or_nothing(rt: HostRuntime) {
+    let answers = [
+        is_one_step_shared(&rt, rt.alloc()),
+        is_one_step_journaled(&rt, rt.alloc()),
+    ];
+    all(&rt, &answers);
 }
 
 /// How often a payload moves while another thread writes to it.
@@ -225,48 +253,65 @@ fn move_away<R: Wait, Options: GlobalTlsfOptions>(
     }
 }
 
-/// Moves a payload while another thread writes to its old address. Returns whether the new one has the last number that was written.
+/// Moves a payload while another thread writes to its old address. Returns the last number that was written, and the new address.
+fn written_and_moved<R: Threads + Wait + Sync, Options: GlobalTlsfOptions + Send>(
+    rt: &R,
+    shared: &GlobalTlsf<Options>,
+    addr: Addr,
+    call: Moves,
+) -> (u64, Result<Addr, GlobalError>) {
+    let is_begun = AtomicBool::new(false);
+    thread::join(
+        rt,
+        || write_until_refused(rt, shared, addr, &is_begun),
+        || move_away(rt, shared, addr, call, &is_begun),
+    )
+}
+
+/// Reads the number in a payload, and deallocates it.
+fn take_number<R: Wait, Options: GlobalTlsfOptions>(
+    rt: &R,
+    shared: &GlobalTlsf<Options>,
+    addr: Addr,
+) -> Result<u64, GlobalError> {
+    let mut bytes = [0; 8];
+    shared.read_payload(rt, addr, 0, &mut bytes)?;
+    shared.deallocate(rt, addr)?;
+    Ok(u64::from_le_bytes(bytes))
+}
+
+/// Returns whether a payload has, after such a move, the last number that was written.
 fn keeps_the_last_number<R: Threads + Wait + Sync, Options: GlobalTlsfOptions + Send>(
     rt: &R,
     shared: &GlobalTlsf<Options>,
     call: Moves,
 ) -> Result<bool, GlobalError> {
-    let is_begun = AtomicBool::new(false);
-    let mut found = [0; 8];
     let addr = shared.alloc(rt, Layout::from_size_align_unchecked(100, 8))?;
-    let (last, moved) = thread::join(
-        rt,
-        || write_until_refused(rt, shared, addr, &is_begun),
-        || move_away(rt, shared, addr, call, &is_begun),
-    );
-    let moved = moved?;
-    shared.read_payload(rt, moved, 0, &mut found)?;
-    shared.deallocate(rt, moved)?;
-    Ok(found == last.to_le_bytes())
+    let (last, moved) = written_and_moved(rt, shared, addr, call);
+    Ok(take_number(rt, shared, moved?)? == last)
 }
 
 /// How many of the moves go as they should, one after another.
-fn right_moves<R: Threads + Wait + Sync, Options: GlobalTlsfOptions + Send>(
+fn right_moves<R: Abort + Threads + Wait + Sync, Options: GlobalTlsfOptions + Send>(
     rt: &R,
     alloc: Global,
     call: Moves,
-) -> Result<usize, Fail> {
-    let shared = GlobalTlsf::<Options>::new(alloc, Memory::new(alloc, 65536, 65536)?);
+) -> usize {
+    let shared = GlobalTlsf::<Options>::new(alloc, memory(rt, alloc, 65536));
     for number in 0..MOVES {
         if keeps_the_last_number(rt, &shared, call) != Ok(true) {
-            return Ok(number);
+            return number;
         }
     }
-    Ok(MOVES)
+    MOVES
 }
 
 #[test]
-fn a_move_is_one_step_for_a_writer(rt: HostRuntime) -> Result<(), Fail> {
+fn a_move_is_one_step_for_a_writer(rt: HostRuntime) {
     let counts = [
-        right_moves::<_, SmallGlobalTlsfOptions>(&rt, rt.alloc(), Moves::Realloc)?,
-        right_moves::<_, SmallGlobalTlsfOptions>(&rt, rt.alloc(), Moves::Reallocate)?,
-        right_moves::<_, ()>(&rt, rt.alloc(), Moves::Reallocate)?,
+        right_moves::<_, SmallGlobalTlsfOptions>(&rt, rt.alloc(), Moves::Realloc),
+        right_moves::<_, SmallGlobalTlsfOptions>(&rt, rt.alloc(), Moves::Reallocate),
+        right_moves::<_, ()>(&rt, rt.alloc(), Moves::Reallocate),
     ];
     all(&rt, &[counts == [MOVES; 3]]);
-    Ok(())
 }

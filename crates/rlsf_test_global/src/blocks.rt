@@ -1,11 +1,12 @@
 //! The blocks that calls leave, by their words in the memory.
 
-use crate::answers::all;
-use crate::locked::first_wrong;
+use crate::answers::{all, memory};
+use crate::runs::first_wrong;
 use crate::steps::{PAGES, Step};
 use rlsf_base::memory::Memory;
 use rlsf_global::Locked;
 use std::process::Abort;
+use std::sync::Wait;
 
 /// The word at an address, if the memory has it.
 fn word_at(memory: &Memory, addr: usize) -> Option<u64> {
@@ -43,14 +44,13 @@ static GROWN: [(usize, u64); 10] = [
 
 /// Passes if calls on an allocator over so many bytes have the results beside them, and leave these words.
 fn leave(
-    rt: &(impl Abort + AllocGlobal),
+    rt: &(impl Abort + AllocGlobal + Wait),
     len: usize,
     steps: &[(Step, usize)],
     words: &[(usize, u64)],
 ) {
-    let memory = Memory::new(rt.alloc(), 65536, len).expect(rt, "a memory");
-    let mut locked = Locked::<()>::new(rt.alloc(), memory);
-    let step = first_wrong(&mut locked, steps);
+    let mut locked = Locked::<()>::new(rt.alloc(), memory(rt, rt.alloc(), len));
+    let step = first_wrong(rt, &mut locked, steps);
     let word = first_wrong_word(locked.memory_ref(), words);
     all(rt, &[step.is_none(), word.is_none()]);
 }

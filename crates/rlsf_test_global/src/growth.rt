@@ -4,29 +4,30 @@
 //! The memory begins at 65536. A block has 16 bytes before its payload, and a length that is a multiple of 32. So a payload of 1000 bytes has
 //! a block of 1024 bytes, one of 240 bytes a block of 256, and one of 1 byte a block of 32.
 
-use crate::shared::all_go_so;
+use crate::runs::all_go_so;
 use crate::steps::{NO_ROOM, Run, Step, UNKNOWN_ADDRESS, WRONG_LAYOUT};
-use rlsf_global::SmallGlobalTlsfOptions;
+use rlsf_global::{GlobalTlsf, SmallGlobalTlsfOptions};
 
 /// Growth where reallocation in place is enabled.
-static GROWS: [Run; 5] = [
+static GROWS: [Run; 7] = [
     (131072, &OWN_BLOCK),
     (131072, &BLOCK_BEHIND),
     (131072, &BLOCK_BEFORE),
     (131072, &BLOCKS_AROUND),
     (262144, &NEXT_PAGES),
+    (131072, &ELSEWHERE),
+    (131072, &REFUSED),
 ];
 
 /// Growth where each payload moves.
-static MOVES: [Run; 4] = [
+static MOVES: [Run; 6] = [
     (131072, &FROM_OWN_BLOCK),
     (131072, &FROM_BLOCK_BEHIND),
     (131072, &FROM_BLOCK_BEFORE),
     (262144, &RANGE_OF_ITS_OWN),
+    (131072, &ELSEWHERE),
+    (131072, &REFUSED),
 ];
-
-/// Growth that both kinds do alike.
-static ALIKE: [Run; 2] = [(131072, &ELSEWHERE), (131072, &REFUSED)];
 
 /// The block has 1008 usable bytes, and the next one is used.
 const OWN_BLOCK: [(Step, usize); 10] = [
@@ -208,12 +209,10 @@ const REFUSED: [(Step, usize); 8] = [
 
 #[test]
 fn a_payload_grows_in_the_first_place_that_is_long_enough(rt: HostRuntime) {
-    all_go_so::<_, ()>(&rt, rt.alloc(), &GROWS);
-    all_go_so::<_, ()>(&rt, rt.alloc(), &ALIKE);
+    all_go_so::<_, GlobalTlsf<()>>(&rt, rt.alloc(), &GROWS);
 }
 
 #[test]
 fn a_payload_that_grows_moves_without_reallocation(rt: HostRuntime) {
-    all_go_so::<_, SmallGlobalTlsfOptions>(&rt, rt.alloc(), &MOVES);
-    all_go_so::<_, SmallGlobalTlsfOptions>(&rt, rt.alloc(), &ALIKE);
+    all_go_so::<_, GlobalTlsf<SmallGlobalTlsfOptions>>(&rt, rt.alloc(), &MOVES);
 }

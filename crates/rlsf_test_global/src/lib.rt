@@ -1,9 +1,9 @@
 //! Tests of `rlsf_global`. This crate has no other code.
 //!
-//! `answers.rt` has the assertions. `steps.rt` has calls as tables, which `locked.rt` and `shared.rt` make. `growth.rt` and
-//! `alignments.rt` have more of them through the lock. `blocks.rt`, `pages.rt` and `payloads.rt` test the layout, the source and the
-//! bytes, and `live_table.rt` the table. `originals.rt` has the original's random tests, with their tables below. `threads.rt` and
-//! `at_once.rt` have threads, `drops.rt` the ends of allocators, and `journal.rt` the tests of journals.
+//! `answers.rt` has the assertions. `steps.rt` has calls as tables, and `runs.rt` runs them on a new allocator, which `locked.rt` and
+//! `shared.rt` make. `growth.rt` and `alignments.rt` have more of them through the lock. `blocks.rt`, `pages.rt` and `payloads.rt` test
+//! the layout, the source and the bytes, and `live_table.rt` the table. `originals.rt` has the original's random tests, with their
+//! tables below. `threads.rt` and `at_once.rt` have threads, `drops.rt` the ends of allocators, and `journal.rt` the tests of journals.
 #![tactic(auto)]
 
 #[cfg(test)]
@@ -30,6 +30,8 @@ mod originals;
 mod pages;
 #[cfg(test)]
 mod payloads;
+#[cfg(test)]
+mod runs;
 #[cfg(test)]
 mod shared;
 #[cfg(test)]

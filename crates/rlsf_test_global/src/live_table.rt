@@ -1,8 +1,8 @@
 //! The table of live payloads, by calls whose payloads are close to each other, on pages of their own, or at an end of the memory.
 
-use crate::locked::all_go_so;
+use crate::runs::all_go_so;
 use crate::steps::{NO_ROOM, Run, Step, WRONG_LAYOUT};
-use rlsf_global::{GlobalError, SmallGlobalTlsfOptions};
+use rlsf_global::{GlobalError, Locked, SmallGlobalTlsfOptions};
 
 const UNKNOWN_ADDRESS: usize = GlobalError::UnknownAddress as usize;
 
@@ -212,8 +212,8 @@ const FRESH_POOL: [(Step, usize); 11] = [
 
 #[test]
 fn live_addresses_are_found(rt: HostRuntime) {
-    all_go_so::<()>(&rt, rt.alloc(), &ALIKE);
-    all_go_so::<()>(&rt, rt.alloc(), &COALESCING);
-    all_go_so::<SmallGlobalTlsfOptions>(&rt, rt.alloc(), &ALIKE);
-    all_go_so::<SmallGlobalTlsfOptions>(&rt, rt.alloc(), &APART);
+    all_go_so::<_, Locked<()>>(&rt, rt.alloc(), &ALIKE);
+    all_go_so::<_, Locked<()>>(&rt, rt.alloc(), &COALESCING);
+    all_go_so::<_, Locked<SmallGlobalTlsfOptions>>(&rt, rt.alloc(), &ALIKE);
+    all_go_so::<_, Locked<SmallGlobalTlsfOptions>>(&rt, rt.alloc(), &APART);
 }

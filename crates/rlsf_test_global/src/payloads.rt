@@ -1,9 +1,9 @@
 //! Reads and writes through the locks, at offsets. What is refused changes nothing, and none of them has an entry in a journal.
 
-use crate::answers::all;
+use crate::answers::{all, memory};
 use crate::journal::{agreed, over};
 use crate::steps::{done, placed};
-use rlsf_base::memory::{Addr, Layout, Memory};
+use rlsf_base::memory::{Addr, Layout};
 use rlsf_global::{
     GlobalError, GlobalTlsf, GlobalTlsfOptions, Journaled, Pass, SmallGlobalTlsfOptions,
 };
@@ -11,7 +11,6 @@ use std::alloc::Global;
 use std::num::NonZeroUsize;
 use std::process::Abort;
 use std::sync::Wait;
-use std::test::Fail;
 
 /// An allocator behind a lock.
 pub trait Shared {
@@ -89,27 +88,23 @@ static WRITES: [(usize, usize, &[u8], usize); 9] = [
     (7, usize::MAX, &[46], 2),
 ];
 
-/// Addresses and offsets from which four bytes are read into four sevens. Each has 0 or the number of the error, and the bytes that
+/// Addresses and offsets from which four sevens or no bytes are read into. Each has 0 or the number of the error, and the bytes that
 /// are there then.
-static READS: [(usize, usize, usize, [u8; 4]); 8] = [
-    (65552, 0, 0, [1, 2, 3, 20]),
-    (65552, 2, 0, [3, 20, 21, 6]),
-    (65552, 4, 0, [21, 6, 7, 8]),
-    (65552, 44, 0, [30, 31, 32, 33]),
-    (65552, 45, 5, [7; 4]),
-    (65552, usize::MAX, 5, [7; 4]),
-    (65560, 0, 2, [7; 4]),
-    (7, usize::MAX, 2, [7; 4]),
-];
-
-/// Addresses and offsets from which no bytes are read, each with 0 or the number of the error.
-static EMPTY_READS: [(usize, usize, usize); 6] = [
-    (65552, 0, 0),
-    (65552, 48, 0),
-    (65552, 49, 5),
-    (65560, 0, 2),
-    (7, 0, 2),
-    (usize::MAX, usize::MAX, 2),
+static READS: [(usize, usize, usize, &[u8]); 14] = [
+    (65552, 0, 0, &[1, 2, 3, 20]),
+    (65552, 2, 0, &[3, 20, 21, 6]),
+    (65552, 4, 0, &[21, 6, 7, 8]),
+    (65552, 44, 0, &[30, 31, 32, 33]),
+    (65552, 45, 5, &[7; 4]),
+    (65552, usize::MAX, 5, &[7; 4]),
+    (65560, 0, 2, &[7; 4]),
+    (7, usize::MAX, 2, &[7; 4]),
+    (65552, 0, 0, &[]),
+    (65552, 48, 0, &[]),
+    (65552, 49, 5, &[]),
+    (65560, 0, 2, &[]),
+    (7, 0, 2, &[]),
+    (usize::MAX, usize::MAX, 2, &[]),
 ];
 
 /// What a write answers: 0, or the number of the error. Nothing where there is no such address.
@@ -124,17 +119,20 @@ fn written(
     Some(done(shared.write(rt, addr, offset, bytes)))
 }
 
-/// As above for a read, with the bytes that are there then.
-fn read(
+/// Whether a read of as many bytes as these returns this, and leaves these bytes where four sevens were.
+fn is_read(
     rt: &impl Wait,
     shared: &impl Shared,
-    addr: usize,
+    addr: Addr,
     offset: usize,
-) -> Option<(usize, [u8; 4])> {
-    let addr = NonZeroUsize::new(addr)?;
-    let mut bytes = [7; 4];
-    let answer = shared.read(rt, addr, offset, &mut bytes);
-    Some((done(answer), bytes))
+    wanted: usize,
+    bytes: &[u8],
+) -> bool {
+    let mut found = [7; 4];
+    let Some(read) = found.get_mut(..bytes.len()) else {
+        return false;
+    };
+    done(shared.read(rt, addr, offset, read)) == wanted && found.get(..bytes.len()) == Some(bytes)
 }
 
 /// The place of the first write with a wrong result.
@@ -150,24 +148,9 @@ fn first_wrong_write(rt: &impl Wait, shared: &impl Shared) -> Option<usize> {
 /// The place of the first read with a wrong result or other bytes.
 fn first_wrong_read(rt: &impl Wait, shared: &impl Shared) -> Option<usize> {
     for (place, (addr, offset, wanted, bytes)) in READS.iter().enumerate() {
-        if read(rt, shared, *addr, *offset) != Some((*wanted, *bytes)) {
-            return Some(place);
-        }
-    }
-    None
-}
-
-/// What a read of no bytes answers: 0, or the number of the error. Nothing where there is no such address.
-fn nothing_read(rt: &impl Wait, shared: &impl Shared, addr: usize, offset: usize) -> Option<usize> {
-    let addr = NonZeroUsize::new(addr)?;
-    Some(done(shared.read(rt, addr, offset, &mut [])))
-}
-
-/// The place of the first read of no bytes with a wrong result.
-fn first_wrong_empty_read(rt: &impl Wait, shared: &impl Shared) -> Option<usize> {
-    for (place, (addr, offset, wanted)) in EMPTY_READS.iter().enumerate() {
-        if nothing_read(rt, shared, *addr, *offset) != Some(*wanted) {
-            return Some(place);
+        match NonZeroUsize::new(*addr) {
+            Some(addr) if is_read(rt, shared, addr, *offset, *wanted, bytes) => {}
+            _ => return Some(place),
         }
     }
     None
@@ -178,7 +161,6 @@ fn are_right(rt: &(impl Wait + Abort), shared: &impl Shared) {
     let answers = [
         first_wrong_write(rt, shared).is_none(),
         first_wrong_read(rt, shared).is_none(),
-        first_wrong_empty_read(rt, shared).is_none(),
     ];
     all(rt, &answers);
 }
@@ -189,37 +171,37 @@ fn layout() -> Layout {
 }
 
 /// Passes if they are of an allocator of this kind.
-fn are_right_of<Options: GlobalTlsfOptions>(
-    rt: &(impl Wait + Abort),
-    alloc: Global,
-) -> Result<(), Fail> {
-    let shared = GlobalTlsf::<Options>::new(alloc, Memory::new(alloc, 65536, 65536)?);
+fn are_right_of<Options: GlobalTlsfOptions>(rt: &(impl Wait + Abort), alloc: Global) {
+    let shared = GlobalTlsf::<Options>::new(alloc, memory(rt, alloc, 65536));
     all(rt, &[placed(shared.alloc(rt, layout())) == 65552]);
     are_right(rt, &shared);
-    Ok(())
 }
 
 #[test]
-fn of_shared_allocators(rt: HostRuntime) -> Result<(), Fail> {
-    are_right_of::<()>(&rt, rt.alloc())?;
-    are_right_of::<SmallGlobalTlsfOptions>(&rt, rt.alloc())
+fn of_shared_allocators(rt: HostRuntime) {
+    are_right_of::<()>(&rt, rt.alloc());
+    are_right_of::<SmallGlobalTlsfOptions>(&rt, rt.alloc());
 }
 
-/// The address of a payload that the first caller allocates, or the number of the error; or 0 without a caller.
-fn allocated(rt: &impl Wait, journaled: &Journaled, passes: &mut [Pass]) -> usize {
-    match passes.first_mut() {
-        Some(pass) if pass.caller() < journaled.callers() => {
-            placed(journaled.allocate(rt, pass, layout()))
-        }
-        _ => 0,
+/// The payload that the first caller allocates; nothing without a caller, or if it is refused.
+pub fn allocated(
+    rt: &impl Wait,
+    journaled: &Journaled,
+    passes: &mut [Pass],
+    layout: Layout,
+) -> Option<Addr> {
+    let pass = passes.first_mut()?;
+    if pass.caller() >= journaled.callers() {
+        return None;
     }
+    journaled.allocate(rt, pass, layout).ok()
 }
 
 #[test]
-fn of_one_with_a_journal(rt: HostRuntime) -> Result<(), Fail> {
-    let (journaled, mut passes) = over(rt.alloc(), 65536, 1)?;
-    all(&rt, &[allocated(&rt, &journaled, &mut passes) == 65552]);
+fn of_one_with_a_journal(rt: HostRuntime) {
+    let (journaled, mut passes) = over(&rt, rt.alloc(), 65536, 1);
+    let addr = allocated(&rt, &journaled, &mut passes, layout());
+    all(&rt, &[addr == NonZeroUsize::new(65552)]);
     are_right(&rt, &journaled);
     agreed(&rt, journaled, passes, (1, 1));
-    Ok(())
 }

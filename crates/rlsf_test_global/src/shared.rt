@@ -1,37 +1,38 @@
 //! Calls through the lock, with what they answer.
 
+use crate::runs::{Tested, all_go_so};
 use crate::steps::{
-    ALIKE, Call, NO_ROOM, NO_STEP, PAGES, Run, SMALL_PAGES, Step, UNREAD, WRONG_LAYOUT, call_of,
-    counted, done, none_is_wrong, placed, rising, told,
+    ALIKE, Arguments, NO_ROOM, NO_STEP, PAGES, Run, SMALL_PAGES, Step, UNREAD, WRONG_LAYOUT,
+    counted, done, placed, rising, told,
 };
 use rlsf_base::memory::{Addr, Memory};
 use rlsf_global::{CAlloc, GlobalTlsf, GlobalTlsfOptions, SmallGlobalTlsfOptions};
 use std::alloc::Global;
-use std::process::Abort;
 use std::sync::Wait;
 
-/// What a call answers.
-fn answer<R: Wait, Options: GlobalTlsfOptions>(
-    rt: &R,
-    shared: &GlobalTlsf<Options>,
-    call: Call,
-) -> usize {
-    match call {
-        Call::Alloc(layout) => placed(shared.alloc(rt, layout)),
-        Call::Allocate(layout) => placed(shared.allocate(rt, layout)),
-        Call::Dealloc(addr, layout) => done(shared.dealloc(rt, addr, layout)),
-        Call::Deallocate(addr) => done(shared.deallocate(rt, addr)),
-        Call::Realloc(addr, to) => placed(shared.realloc(rt, addr, to.layout, to.new_size)),
-        Call::Reallocate(addr, layout) => placed(shared.reallocate(rt, addr, layout)),
-        Call::NoMove(addr, to) => {
-            placed(shared.reallocate_no_move(rt, addr, to.layout, to.new_size))
+impl<Options: GlobalTlsfOptions> Tested for GlobalTlsf<Options> {
+    fn over(alloc: Global, memory: Memory) -> Self {
+        GlobalTlsf::new(alloc, memory)
+    }
+
+    fn answer<R: Wait>(&mut self, rt: &R, step: Step, to: Arguments) -> usize {
+        match step {
+            Step::Alloc(_, _) => placed(self.alloc(rt, to.layout)),
+            Step::Allocate(_, _) => placed(self.allocate(rt, to.layout)),
+            Step::Dealloc(_, _, _) => done(self.dealloc(rt, to.addr, to.layout)),
+            Step::Deallocate(_) => done(self.deallocate(rt, to.addr)),
+            Step::Realloc(_, _, _, _) => placed(self.realloc(rt, to.addr, to.layout, to.new_size)),
+            Step::Reallocate(_, _, _) => placed(self.reallocate(rt, to.addr, to.layout)),
+            Step::NoMove(_, _, _, _) => {
+                placed(self.reallocate_no_move(rt, to.addr, to.layout, to.new_size))
+            }
+            Step::Usable(_) => counted(self.allocation_usable_size(rt, to.addr)),
+            Step::Write(_, offset, len) => match rising(len) {
+                Some(bytes) => done(self.write_payload(rt, to.addr, offset, bytes)),
+                None => NO_STEP,
+            },
+            Step::Read(_, offset, len) => read(rt, self, to.addr, offset, len),
         }
-        Call::Usable(addr) => counted(shared.allocation_usable_size(rt, addr)),
-        Call::Write(addr, offset, len) => match rising(len) {
-            Some(bytes) => done(shared.write_payload(rt, addr, offset, bytes)),
-            None => NO_STEP,
-        },
-        Call::Read(addr, offset, len) => read(rt, shared, addr, offset, len),
     }
 }
 
@@ -50,55 +51,16 @@ fn read<R: Wait, Options: GlobalTlsfOptions>(
     told(answer, &all, len)
 }
 
-/// The place of the first step with another result than the one beside it.
-fn first_wrong<R: Wait, Options: GlobalTlsfOptions>(
-    rt: &R,
-    shared: &GlobalTlsf<Options>,
-    steps: &[(Step, usize)],
-) -> Option<usize> {
-    for (place, (step, wanted)) in steps.iter().enumerate() {
-        let answered = match call_of(*step) {
-            Some(call) => answer(rt, shared, call),
-            None => NO_STEP,
-        };
-        if answered != *wanted {
-            return Some(place);
-        }
-    }
-    None
-}
-
-/// The place of the first wrong step of a run on a new allocator, or 0 if the system is out of memory.
-fn wrong_step<R: Wait, Options: GlobalTlsfOptions>(
-    rt: &R,
-    alloc: Global,
-    run: Run,
-) -> Option<usize> {
-    let (len, steps) = run;
-    let Ok(memory) = Memory::new(alloc, 65536, len) else {
-        return Some(0);
-    };
-    let shared = GlobalTlsf::<Options>::new(alloc, memory);
-    first_wrong(rt, &shared, steps)
-}
-
-/// Passes if each step of each run has its expected result.
-pub fn all_go_so<R: Abort + Wait, Options: GlobalTlsfOptions>(rt: &R, alloc: Global, runs: &[Run]) {
-    for run in runs {
-        none_is_wrong(rt, wrong_step::<R, Options>(rt, alloc, *run));
-    }
-}
-
 #[test]
 fn pages_are_taken_as_they_are_needed(rt: HostRuntime) {
-    all_go_so::<_, ()>(&rt, rt.alloc(), &PAGES);
-    all_go_so::<_, SmallGlobalTlsfOptions>(&rt, rt.alloc(), &SMALL_PAGES);
+    all_go_so::<_, GlobalTlsf<()>>(&rt, rt.alloc(), &PAGES);
+    all_go_so::<_, GlobalTlsf<SmallGlobalTlsfOptions>>(&rt, rt.alloc(), &SMALL_PAGES);
 }
 
 #[test]
 fn addresses_layouts_and_offsets_are_tested(rt: HostRuntime) {
-    all_go_so::<_, ()>(&rt, rt.alloc(), &ALIKE);
-    all_go_so::<_, SmallGlobalTlsfOptions>(&rt, rt.alloc(), &ALIKE);
+    all_go_so::<_, GlobalTlsf<()>>(&rt, rt.alloc(), &ALIKE);
+    all_go_so::<_, GlobalTlsf<SmallGlobalTlsfOptions>>(&rt, rt.alloc(), &ALIKE);
 }
 
 /// A payload that gets shorter, and stays at its address.
@@ -131,6 +93,6 @@ static MOVES: [Run; 1] = [(
 
 #[test]
 fn a_shorter_payload_stays_if_that_is_enabled(rt: HostRuntime) {
-    all_go_so::<_, ()>(&rt, rt.alloc(), &STAYS);
-    all_go_so::<_, SmallGlobalTlsfOptions>(&rt, rt.alloc(), &MOVES);
+    all_go_so::<_, GlobalTlsf<()>>(&rt, rt.alloc(), &STAYS);
+    all_go_so::<_, GlobalTlsf<SmallGlobalTlsfOptions>>(&rt, rt.alloc(), &MOVES);
 }

@@ -3,11 +3,10 @@
 
 ghost use Rattle.rlsf_base.specs.Layout.{IsLayout};
 
-use crate::answers::{all, passes};
+use crate::answers::all;
 use rlsf_base::memory::{Addr, Layout};
 use rlsf_global::GlobalError;
 use std::num::NonZeroUsize;
-use std::process::Abort;
 
 /// A call. Addresses, sizes, alignments and new sizes are in the order of its arguments.
 #[derive(Clone, Copy)]
@@ -26,79 +25,45 @@ pub enum Step {
     Read(usize, usize, usize),
 }
 
-/// A step whose numbers are an address and layouts.
+/// What the call of a step is passed: its address, its layout, and another size that goes with the alignment.
 #[derive(Clone, Copy)]
-pub enum Call {
-    Alloc(Layout),
-    Allocate(Layout),
-    Dealloc(Addr, Layout),
-    Deallocate(Addr),
-    Realloc(Addr, Resized),
-    Reallocate(Addr, Layout),
-    NoMove(Addr, Resized),
-    Usable(Addr),
-    Write(Addr, usize, usize),
-    Read(Addr, usize, usize),
-}
-
-/// A layout, and another size that goes with its alignment.
-#[derive(Clone, Copy)]
-pub struct Resized {
+pub struct Arguments {
+    pub addr: Addr,
     pub layout: Layout,
     pub new_size: usize,
     pub ghost valid: { IsLayout new_size layout.align },
 }
 
-fn with_new_size(size: usize, align: usize, new_size: usize) -> Option<Resized> {
+/// The address, the size, the alignment and the new size in a step: 1 if it has no address, and those of no bytes if it has no size.
+fn numbers_of(step: Step) -> (usize, usize, usize, usize) {
+    match step {
+        Step::Alloc(size, align) | Step::Allocate(size, align) => (1, size, align, size),
+        Step::Dealloc(addr, size, align) | Step::Reallocate(addr, size, align) => {
+            (addr, size, align, size)
+        }
+        Step::Realloc(addr, size, align, new_size) | Step::NoMove(addr, size, align, new_size) => {
+            (addr, size, align, new_size)
+        }
+        Step::Write(addr, _, _) | Step::Read(addr, _, _) => (addr, 0, 1, 0),
+        Step::Deallocate(addr) | Step::Usable(addr) => (addr, 0, 1, 0),
+    }
+}
+
+/// What the call of a step is passed; nothing where it names no address or no layout.
+pub fn arguments_of(step: Step) -> Option<Arguments> {
+    let (addr, size, align, new_size) = numbers_of(step);
+    let addr = NonZeroUsize::new(addr)?;
     match (
         Layout::from_size_align(size, align),
         Layout::from_size_align(new_size, align),
     ) {
-        (Ok(layout), Ok(_)) => Some(Resized { layout, new_size }),
+        (Ok(layout), Ok(_)) => Some(Arguments {
+            addr,
+            layout,
+            new_size,
+        }),
         _ => None,
     }
-}
-
-/// The address in a step, or 1 if it has none.
-fn addr_of(step: Step) -> usize {
-    match step {
-        Step::Alloc(_, _) | Step::Allocate(_, _) => 1,
-        Step::Dealloc(addr, _, _) | Step::Reallocate(addr, _, _) => addr,
-        Step::Realloc(addr, _, _, _) | Step::NoMove(addr, _, _, _) => addr,
-        Step::Write(addr, _, _) | Step::Read(addr, _, _) => addr,
-        Step::Deallocate(addr) | Step::Usable(addr) => addr,
-    }
-}
-
-/// The size, the alignment and the new size in a step, or those of no bytes.
-fn sizes_of(step: Step) -> (usize, usize, usize) {
-    match step {
-        Step::Alloc(size, align) | Step::Allocate(size, align) => (size, align, size),
-        Step::Dealloc(_, size, align) | Step::Reallocate(_, size, align) => (size, align, size),
-        Step::Realloc(_, size, align, new_size) | Step::NoMove(_, size, align, new_size) => {
-            (size, align, new_size)
-        }
-        _ => (0, 1, 0),
-    }
-}
-
-/// The call of a step; nothing where it names no address or no layout.
-pub fn call_of(step: Step) -> Option<Call> {
-    let addr = NonZeroUsize::new(addr_of(step))?;
-    let (size, align, new_size) = sizes_of(step);
-    let to = with_new_size(size, align, new_size)?;
-    Some(match step {
-        Step::Alloc(_, _) => Call::Alloc(to.layout),
-        Step::Allocate(_, _) => Call::Allocate(to.layout),
-        Step::Dealloc(_, _, _) => Call::Dealloc(addr, to.layout),
-        Step::Deallocate(_) => Call::Deallocate(addr),
-        Step::Realloc(_, _, _, _) => Call::Realloc(addr, to),
-        Step::Reallocate(_, _, _) => Call::Reallocate(addr, to.layout),
-        Step::NoMove(_, _, _, _) => Call::NoMove(addr, to),
-        Step::Usable(_) => Call::Usable(addr),
-        Step::Write(_, offset, len) => Call::Write(addr, offset, len),
-        Step::Read(_, offset, len) => Call::Read(addr, offset, len),
-    })
 }
 
 /// What is written and read.
@@ -161,13 +126,6 @@ pub const UNKNOWN_ADDRESS: usize = GlobalError::UnknownAddress as usize;
 pub const WRONG_LAYOUT: usize = GlobalError::WrongLayout as usize;
 
 const OUT_OF_RANGE: usize = GlobalError::OutOfRange as usize;
-
-/// Passes if no step has another result. Otherwise the failure shows the step.
-pub fn none_is_wrong(rt: &impl Abort, wrong: Option<usize>) {
-    if let Some(step) = wrong {
-        passes(rt, false, step);
-    }
-}
 
 #[test]
 fn errors_have_their_numbers(rt: HostRuntime) {

@@ -1,20 +1,18 @@
 //! Calls under the passes of several callers on one thread, and what closing finds.
 
-use crate::answers::all;
-use crate::steps::{Call, NO_STEP, Step, call_of, done, placed};
-use rlsf_base::memory::Memory;
+use crate::answers::{all, memory, passes};
+use crate::steps::{NO_STEP, Step, arguments_of, done, placed};
 use rlsf_global::{CloseError, Closed, GlobalError, Journaled, Pass, Reply};
 use std::alloc::Global;
+use std::fmt::Display;
 use std::process::Abort;
 use std::sync::Wait;
-use std::test::Fail;
 
 /// Calls with the number of the caller before each, and the result behind it: an address, 0 for a deallocation, or the number of
 /// the error.
 type Steps = &'static [(usize, Step, usize)];
 
 /// Calls over an allocator, and what is closed behind them.
-#[derive(Clone, Copy)]
 struct Case {
     /// How many bytes the memory has, from 65536 on.
     len: usize,
@@ -31,14 +29,17 @@ struct Case {
 }
 
 /// Makes a call, which has to be one with an entry: the address, or 0 for a deallocation, or the number of the error.
-fn answer(rt: &impl Wait, journaled: &Journaled, pass: &mut Pass, call: Call) -> usize {
+fn answer(rt: &impl Wait, journaled: &Journaled, pass: &mut Pass, step: Step) -> usize {
+    let Some(to) = arguments_of(step) else {
+        return NO_STEP;
+    };
     if pass.caller() >= journaled.callers() {
         return NO_STEP;
     }
-    match call {
-        Call::Allocate(layout) => placed(journaled.allocate(rt, pass, layout)),
-        Call::Deallocate(addr) => done(journaled.deallocate(rt, pass, addr)),
-        Call::Reallocate(addr, layout) => placed(journaled.reallocate(rt, pass, addr, layout)),
+    match step {
+        Step::Allocate(_, _) => placed(journaled.allocate(rt, pass, to.layout)),
+        Step::Deallocate(_) => done(journaled.deallocate(rt, pass, to.addr)),
+        Step::Reallocate(_, _, _) => placed(journaled.reallocate(rt, pass, to.addr, to.layout)),
         _ => NO_STEP,
     }
 }
@@ -51,10 +52,11 @@ fn first_wrong(
     steps: Steps,
 ) -> Option<usize> {
     for (place, (caller, step, wanted)) in steps.iter().enumerate() {
-        let (Some(pass), Some(call)) = (passes.get_mut(*caller), call_of(*step)) else {
-            return Some(place);
+        let answered = match passes.get_mut(*caller) {
+            Some(pass) => answer(rt, journaled, pass, *step),
+            None => NO_STEP,
         };
-        if answer(rt, journaled, pass, call) != *wanted {
+        if answered != *wanted {
             return Some(place);
         }
     }
@@ -83,24 +85,20 @@ fn have_receipts(passes: &[Pass], numbers: &[&[usize]]) -> bool {
 }
 
 /// An allocator over so many bytes from 65536 on, with the passes of its callers.
-pub fn over(alloc: Global, len: usize, callers: usize) -> Result<(Journaled, Vec<Pass>), Fail> {
-    let memory = Memory::new(alloc, 65536, len)?;
-    Ok(Journaled::new(alloc, memory, callers)?)
+pub fn over(rt: &impl Abort, alloc: Global, len: usize, callers: usize) -> (Journaled, Vec<Pass>) {
+    Journaled::new(alloc, memory(rt, alloc, len), callers).expect(rt, "passes")
 }
 
 /// The state after a case. Passes if all steps have their expected results, and the passes their receipts.
-fn after_steps(
-    rt: &(impl Wait + Abort),
-    alloc: Global,
-    case: Case,
-) -> Result<(Journaled, Vec<Pass>), Fail> {
-    let (journaled, mut passes) = over(alloc, case.len, case.callers)?;
-    let wrong = first_wrong(rt, &journaled, &mut passes, case.steps);
-    all(
-        rt,
-        &[wrong.is_none(), have_receipts(&passes, case.receipts)],
-    );
-    Ok((journaled, passes))
+fn after_steps(rt: &(impl Wait + Abort), alloc: Global, case: &Case) -> (Journaled, Vec<Pass>) {
+    let (journaled, mut passes) = over(rt, alloc, case.len, case.callers);
+    let answers = [
+        journaled.callers() == case.callers,
+        first_wrong(rt, &journaled, &mut passes, case.steps).is_none(),
+        have_receipts(&passes, case.receipts),
+    ];
+    all(rt, &answers);
+    (journaled, passes)
 }
 
 /// The result of closing. Passes if the passes agree with the journal, and there are so many entries and so many live payloads.
@@ -119,19 +117,22 @@ pub fn agreed(
     closed
 }
 
+/// Whether a value is printed as this text.
+fn has_text(rt: &impl Abort, alloc: Global, shown: &impl Display, text: &str) -> bool {
+    shown.to_string(alloc).expect(rt, "a text").as_str() == text
+}
+
 /// Passes if a case has its expected result.
-fn is_right(rt: &(impl Wait + Abort), alloc: Global, case: Case) -> Result<(), Fail> {
-    let (journaled, mut passes) = after_steps(rt, alloc, case)?;
+fn is_right(rt: &(impl Wait + Abort), alloc: Global, case: &Case) {
+    let (journaled, mut passes) = after_steps(rt, alloc, case);
     if case.last_first {
         passes.reverse();
     }
     let closed = agreed(rt, journaled, passes, case.counts);
-    let text = closed.to_string(alloc)?;
-    all(rt, &[text.as_str() == case.text]);
-    Ok(())
+    all(rt, &[has_text(rt, alloc, &closed, case.text)]);
 }
 
-const ONE_THREAD: Case = Case {
+static ONE_THREAD: Case = Case {
     len: 65536,
     callers: 2,
     steps: &[
@@ -150,12 +151,12 @@ const ONE_THREAD: Case = Case {
 };
 
 #[test]
-fn one_thread(rt: HostRuntime) -> Result<(), Fail> {
-    is_right(&rt, rt.alloc(), ONE_THREAD)
+fn one_thread(rt: HostRuntime) {
+    is_right(&rt, rt.alloc(), &ONE_THREAD);
 }
 
 /// A payload that one of two callers allocates, and both free.
-const FREED_TWICE: Case = Case {
+static FREED_TWICE: Case = Case {
     len: 131072,
     callers: 2,
     steps: &[
@@ -172,11 +173,11 @@ const FREED_TWICE: Case = Case {
 };
 
 #[test]
-fn another_caller_frees(rt: HostRuntime) -> Result<(), Fail> {
-    is_right(&rt, rt.alloc(), FREED_TWICE)
+fn another_caller_frees(rt: HostRuntime) {
+    is_right(&rt, rt.alloc(), &FREED_TWICE);
 }
 
-const MOVED: Case = Case {
+static MOVED: Case = Case {
     len: 131072,
     callers: 1,
     steps: &[
@@ -194,12 +195,12 @@ const MOVED: Case = Case {
 };
 
 #[test]
-fn a_payload_moves(rt: HostRuntime) -> Result<(), Fail> {
-    is_right(&rt, rt.alloc(), MOVED)
+fn a_payload_moves(rt: HostRuntime) {
+    is_right(&rt, rt.alloc(), &MOVED);
 }
 
 /// The first page doesn't suffice, and the range that is there grows.
-const SECOND_PAGE: Case = Case {
+static SECOND_PAGE: Case = Case {
     len: 196608,
     callers: 2,
     steps: &[
@@ -218,14 +219,14 @@ const SECOND_PAGE: Case = Case {
 };
 
 #[test]
-fn a_second_page(rt: HostRuntime) -> Result<(), Fail> {
-    is_right(&rt, rt.alloc(), SECOND_PAGE)
+fn a_second_page(rt: HostRuntime) {
+    is_right(&rt, rt.alloc(), &SECOND_PAGE);
 }
 
 /// The last pass, an unused one, of another allocator with so many callers.
-fn stray(alloc: Global, callers: usize) -> Result<Pass, Fail> {
-    let (_, mut passes) = over(alloc, 65536, callers)?;
-    Ok(passes.pop().ok_or(GlobalError::JournalMemory)?)
+fn stray(rt: &impl Abort, alloc: Global, callers: usize) -> Pass {
+    let (_, mut passes) = over(rt, alloc, 65536, callers);
+    passes.pop().expect(rt, "a pass")
 }
 
 /// The number of the error, or 0 where it was closed.
@@ -238,18 +239,14 @@ fn code(closed: Result<Closed, CloseError>) -> usize {
 
 /// What closing answers when a payload was freed twice, and so many of the own passes are handed back, and then strays.
 /// Each stray is of an allocator with so many callers.
-fn closing(
-    rt: &(impl Wait + Abort),
-    alloc: Global,
-    own: usize,
-    strays: &[usize],
-) -> Result<usize, Fail> {
-    let (journaled, mut passes) = after_steps(rt, alloc, FREED_TWICE)?;
+fn closing(rt: &(impl Wait + Abort), alloc: Global, own: usize, strays: &[usize]) -> usize {
+    let (journaled, mut passes) = after_steps(rt, alloc, &FREED_TWICE);
     passes.truncate(own);
     for callers in strays {
-        passes.push(stray(alloc, *callers)?)?;
+        let pass = stray(rt, alloc, *callers);
+        passes.push(pass).expect(rt, "room for a pass");
     }
-    Ok(code(journaled.close(passes)))
+    code(journaled.close(passes))
 }
 
 /// How many own passes are handed back, the strays behind them, and the number of the error that closing answers.
@@ -263,41 +260,49 @@ static FAULTS: [(usize, &[usize], usize); 5] = [
 ];
 
 #[test]
-fn faults_come_in_their_order(rt: HostRuntime) -> Result<(), Fail> {
-    for (own, strays, error) in &FAULTS {
-        all(&rt, &[closing(&rt, rt.alloc(), *own, strays)? == *error]);
+fn faults_come_in_their_order(rt: HostRuntime) {
+    for (place, (own, strays, error)) in FAULTS.iter().enumerate() {
+        passes(&rt, closing(&rt, rt.alloc(), *own, strays) == *error, place);
     }
-    Ok(())
 }
 
 #[test]
-fn too_many_callers(rt: HostRuntime) -> Result<(), Fail> {
-    let memory = Memory::new(rt.alloc(), 65536, 65536)?;
+fn too_many_callers(rt: HostRuntime) {
+    let memory = memory(&rt, rt.alloc(), 65536);
     let refused = Journaled::new(rt.alloc(), memory, usize::MAX).err();
     all(&rt, &[refused == Some(GlobalError::JournalMemory)]);
-    Ok(())
 }
 
+static NO_CALLERS: Case = Case {
+    len: 65536,
+    callers: 0,
+    steps: &[],
+    receipts: &[],
+    last_first: false,
+    counts: (0, 0),
+    text: "",
+};
+
 #[test]
-fn no_callers(rt: HostRuntime) -> Result<(), Fail> {
-    let (journaled, passes) = over(rt.alloc(), 65536, 0)?;
-    all(&rt, &[journaled.callers() == 0, passes.is_empty()]);
-    let closed = agreed(&rt, journaled, passes, (0, 0));
-    let text = closed.to_string(rt.alloc())?;
-    all(&rt, &[text.is_empty()]);
-    Ok(())
+fn no_callers(rt: HostRuntime) {
+    is_right(&rt, rt.alloc(), &NO_CALLERS);
 }
 
 // The last two have no entry, so no text of a journal shows theirs.
 #[test]
-fn each_reply_has_its_text(rt: HostRuntime) -> Result<(), Fail> {
+fn each_reply_has_its_text(rt: HostRuntime) {
+    let alloc = rt.alloc();
     let answers = [
-        Reply::Freed.to_string(rt.alloc())?.as_str() == "freed",
-        Reply::NoRoom.to_string(rt.alloc())?.as_str() == "no room",
-        Reply::UnknownAddress.to_string(rt.alloc())?.as_str() == "unknown address",
-        Reply::TableMemory.to_string(rt.alloc())?.as_str() == "no memory for the table",
-        Reply::JournalMemory.to_string(rt.alloc())?.as_str() == "no memory for the journal",
+        has_text(&rt, alloc, &Reply::Freed, "freed"),
+        has_text(&rt, alloc, &Reply::NoRoom, "no room"),
+        has_text(&rt, alloc, &Reply::UnknownAddress, "unknown address"),
+        has_text(&rt, alloc, &Reply::TableMemory, "no memory for the table"),
+        has_text(
+            &rt,
+            alloc,
+            &Reply::JournalMemory,
+            "no memory for the journal",
+        ),
     ];
     all(&rt, &answers);
-    Ok(())
 }

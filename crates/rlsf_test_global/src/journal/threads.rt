@@ -4,9 +4,10 @@ use super::calls::{agreed, over};
 use crate::answers::all;
 use rlsf_base::memory::Layout;
 use rlsf_global::{Closed, GlobalError, Journaled, Pass};
+use std::alloc::Global;
+use std::process::Abort;
 use std::sync::Wait;
 use std::sync::atomic::{AtomicBool, Ordering};
-use std::test::Fail;
 use std::thread;
 use std::thread::Threads;
 
@@ -90,15 +91,14 @@ fn visits<R: Threads + Wait + Sync>(
 }
 
 #[test]
-fn two_callers(rt: HostRuntime) -> Result<(), Fail> {
-    let (journaled, mut passes) = over(rt.alloc(), 131072, 2)?;
-    let (Some(second), Some(first)) = (passes.pop(), passes.pop()) else {
-        return Err(Fail::new("two passes"));
-    };
+fn two_callers(rt: HostRuntime) {
+    let (journaled, mut passes) = over(&rt, rt.alloc(), 131072, 2);
+    let second = passes.pop().expect(&rt, "a second pass");
+    let first = passes.pop().expect(&rt, "a first pass");
     let ((first, left), (second, right)) = visits(&rt, &journaled, first, second);
     let (own, other) = (numbers(&first), numbers(&second));
-    passes.push(first)?;
-    passes.push(second)?;
+    passes.push(first).expect(&rt, "room for a pass");
+    passes.push(second).expect(&rt, "room for a pass");
     let closed = agreed(&rt, journaled, passes, (4, 0));
     let answers = [
         left,
@@ -107,7 +107,6 @@ fn two_callers(rt: HostRuntime) -> Result<(), Fail> {
         callers_of(&closed, other) == [1, 1],
     ];
     all(&rt, &answers);
-    Ok(())
 }
 
 /// Writes 100 bytes, moves them into a payload of 200, reads them, and deallocates it. Returns whether they were equal.
@@ -141,15 +140,20 @@ fn rounds(rt: &impl Wait, journaled: &Journaled, mut pass: Pass) -> (Pass, bool)
     (pass, all)
 }
 
-#[test]
-fn eight_callers(rt: HostRuntime) -> Result<(), Fail> {
-    let (journaled, passes) = over(rt.alloc(), 196608, 8)?;
-    let done = thread::map_vec(&rt, passes, &|pass| rounds(&rt, &journaled, pass))?;
-    let mut passes = Vec::new(rt.alloc());
+/// The passes that threads end with. Passes if each read what it wrote.
+fn passes_of(rt: &impl Abort, alloc: Global, done: Vec<(Pass, bool)>) -> Vec<Pass> {
+    let mut passes = Vec::new(alloc);
     for (pass, same) in done {
-        all(&rt, &[same]);
-        passes.push(pass)?;
+        all(rt, &[same]);
+        passes.push(pass).expect(rt, "room for a pass");
     }
+    passes
+}
+
+#[test]
+fn eight_callers(rt: HostRuntime) {
+    let (journaled, passes) = over(&rt, rt.alloc(), 196608, 8);
+    let done = thread::map_vec(&rt, passes, &|pass| rounds(&rt, &journaled, pass));
+    let passes = passes_of(&rt, rt.alloc(), done.expect(&rt, "threads"));
     agreed(&rt, journaled, passes, (24000, 0));
-    Ok(())
 }
