@@ -1,8 +1,8 @@
 -- What a source of one's own cites, and the definitions and the lemmas of a source that hands its space out from a cursor on.
 pub use Rattle.rlsf_base.specs.declared.memory.range.Range.{Range}
-pub use Rattle.rlsf_base.specs.PowerOfTwo.{IsPowerOfTwo}
+pub use Rattle.rlsf_model_sizes.specs.PowerOfTwo.{IsPowerOfTwo}
 pub use Rattle.rlsf_base.specs.Range.{LiesIn, end_of, range_at}
-pub use Rattle.rlsf_base.specs.Rounding.{round32}
+pub use Rattle.rlsf_model_sizes.specs.Rounding.{round32}
 pub use Rattle.rlsf_model.specs.Insert.{IsClear, IsVacant}
 pub use Rattle.rlsf_model.specs.Lists.{IsIn}
 pub use Rattle.rlsf_model.specs.Note.{Note, LeadsBy, alloc, dealloc, grow}

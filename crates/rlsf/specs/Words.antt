@@ -5,8 +5,8 @@ pub use Rattle.rlsf_base.specs.Addr.{at, reply}
 pub use Rattle.rlsf_base.specs.ClassLaws.{LongestBlockHasAClass, MappedIsFirstReaching, PoolContainsItsAllocation, PoolIsOneChunk, UnmappedBeginsItsClass, UnmappedIsEnough}
 pub use Rattle.rlsf_base.specs.ClassLaws.{UnreachedIsNotUnmapped}
 pub use Rattle.rlsf_base.specs.Range.{AreApart, LiesIn, end_of, range_at}
-pub use Rattle.rlsf_base.specs.SizeClass.{IsValid}
-pub use Rattle.rlsf_base.specs.Sizes.{request_size}
+pub use Rattle.rlsf_model_sizes.specs.SizeClass.{IsValid}
+pub use Rattle.rlsf_model_sizes.specs.Sizes.{request_size}
 pub use Rattle.rlsf_base.specs.Space.{SamePlace, Space, range_of}
 pub use Rattle.rlsf_model.specs.Allocate.{Allocates}
 pub use Rattle.rlsf_model.specs.Callers.{align_at, bytes_at}

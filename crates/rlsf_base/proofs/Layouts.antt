@@ -3,7 +3,7 @@ use Rattle.std.proofs.Common.{◌≡◌, ℕ, ◌+◌, ◌-◌, ◌*◌, ◌^◌
 use Rattle.std.proofs.lemmas.Nat.{pow-add, pow_pos}
 use Rattle.std.specs.Int.{next_multiple_of}
 use Rattle.rlsf_base.specs.Layout.{IsLayout}
-use Rattle.rlsf_base.specs.PowerOfTwo.{floor_log2}
+use Rattle.rlsf_model_sizes.specs.PowerOfTwo.{floor_log2}
 use Rattle.rlsf_base.proofs.Numbers.PowersOfTwo.{IsPowerOfTwo-positive, pow-between}
 use Rattle.rlsf_base.proofs.Numbers.Roundings.{next_multiple_of-least}
 

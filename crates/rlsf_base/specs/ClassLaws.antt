@@ -1,8 +1,8 @@
 -- Laws of size classes, of what is computed of sizes, and of pools that are made for one allocation. Each is of every
 -- allocator whose parameters are valid.
 use Rattle.std.specs.Prelude.{◌≡◌, ℕ, ◌-◌, ◌≤◌, Some, None, IsSome}
-use Rattle.rlsf_base.specs.SizeClass.{SizeClass, IsFirstReaching, IsValid, IsValidClass, Reaches, class_of}
-use Rattle.rlsf_base.specs.Sizes.{IsSize, map_floor, map_ceil, map_ceil_and_unmap, max_pool_size, pool_size_to_contain_allocation, request_size, valid_indices}
+use Rattle.rlsf_model_sizes.specs.SizeClass.{SizeClass, IsFirstReaching, IsValid, IsValidClass, Reaches, class_of}
+use Rattle.rlsf_model_sizes.specs.Sizes.{IsSize, map_floor, map_ceil, map_ceil_and_unmap, max_pool_size, pool_size_to_contain_allocation, request_size, valid_indices}
 
 -- `map_ceil` gives the first of all classes that reach the size, by its indices, where that class is valid, and else nothing
 abbrev pub MappedIsFirstReaching : Type 0

@@ -1,4 +1,4 @@
--- Definitions for memories, ranges, layouts and size classes. Read `Range` and `Space` first.
+-- Definitions for memories, ranges and layouts. Read `Range` and `Space` first.
 pub mod Addr
 pub mod Changes
 pub mod ClassLaws
@@ -10,13 +10,9 @@ pub mod MemoryCalls
 pub mod OpenSpace
 pub mod Out
 pub mod Piece
-pub mod PowerOfTwo
 pub mod Range
 pub mod RawParts
-pub mod Rounding
 pub mod SearchStart
-pub mod SizeClass
-pub mod Sizes
 pub mod Space
 pub mod Steps
 pub mod UnitPayload

@@ -1,6 +1,6 @@
 -- Where the search for a block begins: at a row of classes and a place in it.
 use Rattle.std.specs.Prelude.{◌≡◌, ℕ, ◌+◌, ◌<◌, ◌≤◌, ◌⊎◌}
-use Rattle.rlsf_base.specs.SizeClass.{SizeClass, IsAtMost, Reaches, class_at}
+use Rattle.rlsf_model_sizes.specs.SizeClass.{SizeClass, IsAtMost, Reaches, class_at}
 
 -- a search of a row begins at one of its places, or behind them all if they are 32 or fewer
 abbrev pub CanBegin : ℕ → ℕ → Type 0

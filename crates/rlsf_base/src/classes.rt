@@ -13,8 +13,8 @@
 ghost use Rattle.std.specs.Prelude.{◌≡◌, ◌/◌, ℕ, ◌%◌, ◌^◌, ◌<◌, ◌≤◌, ◌+◌, ◌*◌, ◌-◌, IsTrue, IfSome, IfNone, MatchOption};
 ghost use Rattle.rlsf_base.specs.ClassLaws.{MappedIsFirstReaching, UnmappedIsEnough, UnmappedBeginsItsClass, UnreachedIsNotUnmapped, LongestBlockHasAClass, PoolIsOneChunk, PoolContainsItsAllocation};
 ghost use Rattle.rlsf_base.specs.SearchStart.{IsSearchStart, NoneReaches};
-ghost use Rattle.rlsf_base.specs.SizeClass.{SizeClass, IsValid, is_row_length, class_of, class_start, reaching_class};
-ghost use Rattle.rlsf_base.specs.Sizes as sizes;
+ghost use Rattle.rlsf_model_sizes.specs.SizeClass.{SizeClass, IsValid, is_row_length, class_of, class_start, reaching_class};
+ghost use Rattle.rlsf_model_sizes.specs.Sizes as sizes;
 
 use crate::memory::Layout;
 use crate::rounding::next_multiple_of_32;

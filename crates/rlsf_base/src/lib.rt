@@ -2,8 +2,8 @@
 //!
 //! Read `specs/Range`, `specs/Layout` and `specs/Space` (a memory as contracts see it) first, then `src/memory`. It has one file for each
 //! subject: `range`, `layout`, `open_memory` (bytes can leave), `part` and `ledger` (bytes that left), `block` (the pointer). `specs/Out` and
-//! `specs/OpenSpace` belong to these. Then `src/rounding` with `specs/Rounding`, and `src/classes` with `specs/SizeClass` and `specs/Sizes`.
-//! `specs/Steps` is for private functions.
+//! `specs/OpenSpace` belong to these. Then `src/rounding` and `src/classes`, with `Rounding`, `SizeClass` and `Sizes` of
+//! `rlsf_model_sizes`. `specs/Steps` is for private functions.
 #![tactic(auto)]
 
 pub mod classes;

@@ -3,8 +3,8 @@
 
 ghost use Rattle.std.specs.Prelude.{◌≡◌, ◌^◌, ◌<◌};
 ghost use Rattle.std.specs.Int.{next_multiple_of};
-ghost use Rattle.rlsf_base.specs.PowerOfTwo.{IsPowerOfTwo};
-ghost use Rattle.rlsf_base.specs.Rounding.{round32};
+ghost use Rattle.rlsf_model_sizes.specs.PowerOfTwo.{IsPowerOfTwo};
+ghost use Rattle.rlsf_model_sizes.specs.Rounding.{round32};
 
 /// Returns the least multiple of 32, the granularity of blocks, that is at least `n`. It must fit in a `usize`.
 pub fn next_multiple_of_32(n: usize) -> usize

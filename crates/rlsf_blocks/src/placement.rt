@@ -3,7 +3,7 @@
 ghost use Rattle.std.specs.Prelude.{◌≡◌, ◌+◌, ◌-◌, ◌%◌, ◌^◌, ◌<◌, List, IfNone, IfSome};
 ghost use Rattle.rlsf_base.specs.declared.memory.range.Range.{Range};
 ghost use Rattle.rlsf_base.specs.Range.{range_at};
-ghost use Rattle.rlsf_base.specs.SizeClass.{IsValid};
+ghost use Rattle.rlsf_model_sizes.specs.SizeClass.{IsValid};
 ghost use Rattle.rlsf_base.specs.Space.{word_at};
 ghost use Rattle.rlsf_base.specs.OpenSpace.{SameOwn, StaysHere};
 ghost use Rattle.rlsf_model.specs.Allocate.{Allocates, Places};

@@ -3,8 +3,8 @@
 ghost use Rattle.std.specs.Prelude.{◌≡◌, ◌+◌, ◌*◌, ◌≤◌, IfNone, length};
 ghost use Rattle.rlsf_base.specs.Addr.{reply};
 ghost use Rattle.rlsf_base.specs.OpenSpace.{IsOwned, SameOwn, StaysHere};
-ghost use Rattle.rlsf_base.specs.SizeClass.{IsValid};
-ghost use Rattle.rlsf_base.specs.Sizes.{max_pool_size};
+ghost use Rattle.rlsf_model_sizes.specs.SizeClass.{IsValid};
+ghost use Rattle.rlsf_model_sizes.specs.Sizes.{max_pool_size};
 ghost use Rattle.rlsf_base.specs.Space.{range_of};
 ghost use Rattle.rlsf_model.specs.Insert.{Inserts, IsFresh, aligned_part, cut};
 ghost use Rattle.rlsf_model.specs.Laws.{first_length};

@@ -4,7 +4,7 @@ use Rattle.std.proofs.lemmas.Bool.{cases_lt, le-leb, leb-true}
 use Rattle.std.proofs.lemmas.List.{take_all, take_more}
 use Rattle.rlsf_base.specs.declared.memory.range.Range.{Range}
 use Rattle.rlsf_base.specs.Range.{end_of}
-use Rattle.rlsf_base.specs.Rounding.{round32}
+use Rattle.rlsf_model_sizes.specs.Rounding.{round32}
 use Rattle.rlsf_base.proofs.Numbers.Roundings.{round32-le, round32-least}
 use Rattle.rlsf_blocks.specs.Blocks.{AreBlocks, Block, HasBlock, IsInOrder, free, used, walked}
 use Rattle.rlsf_blocks.specs.Totals.{free_of, total, used_of}

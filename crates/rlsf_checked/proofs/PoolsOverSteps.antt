@@ -5,8 +5,8 @@ use Rattle.std.proofs.lemmas.Bool.{and_parts, cases_lt, eqb-true, le-ltb, leb-tr
 use Rattle.std.proofs.lemmas.Option.{none-some}
 use Rattle.rlsf_base.specs.declared.memory.range.Range.{Range}
 use Rattle.rlsf_base.specs.Range.{LiesIn, end_of, range_at}
-use Rattle.rlsf_base.specs.Rounding.{round32}
-use Rattle.rlsf_base.specs.Sizes.{max_pool_size}
+use Rattle.rlsf_model_sizes.specs.Rounding.{round32}
+use Rattle.rlsf_model_sizes.specs.Sizes.{max_pool_size}
 use Rattle.rlsf_base.specs.Space.{SamePlace, range_of}
 use Rattle.rlsf_base.proofs.Numbers.Roundings.{round32-le}
 use Rattle.rlsf_blocks.specs.Blocks.{walked}

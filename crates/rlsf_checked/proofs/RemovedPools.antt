@@ -3,7 +3,7 @@ use Rattle.std.proofs.Common.{◌≡◌, ◌⊎◌, ℕ, ◌<◌, ◌≤◌, ◌
 use Rattle.std.proofs.lemmas.Bool.{cases_lt, cond_both, eq-eqb, eqb-false, eqb-true}
 use Rattle.rlsf_base.specs.declared.memory.range.Range.{Range}
 use Rattle.rlsf_base.specs.Range.{end_of}
-use Rattle.rlsf_base.specs.Rounding.{round32}
+use Rattle.rlsf_model_sizes.specs.Rounding.{round32}
 use Rattle.rlsf_base.specs.Space.{SamePlace}
 use Rattle.rlsf_base.proofs.Numbers.Roundings.{round32-le, round32-lt, round32-multiple}
 use Rattle.rlsf_blocks.specs.Blocks.{walked}

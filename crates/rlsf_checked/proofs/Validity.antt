@@ -2,7 +2,7 @@
 use Rattle.std.proofs.Common.{◌≡◌, ◌↔◌, ℕ, true≢false, IsTrue, nat_le, nat_lt, arith, sym, ◌∙◌, ap, inl, inr}
 use mathlib.Core.Bool.{◌&&◌}
 use Rattle.std.proofs.lemmas.Bool.{and_parts, cases_lt, le-leb, leb-true, lt-ltb, ltb-true}
-use Rattle.rlsf_base.specs.SizeClass.{IsValid, is_row_length}
+use Rattle.rlsf_model_sizes.specs.SizeClass.{IsValid, is_row_length}
 use Rattle.rlsf_int.specs.Bits.{IsFirstOne, bit, bit-zero}
 use Rattle.rlsf_checked.specs.Steps.Classes.{is_valid}
 

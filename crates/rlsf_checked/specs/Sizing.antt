@@ -1,7 +1,7 @@
 -- What the bounds are for that the allocator is sized for: no payload within them is refused.
 use Rattle.std.specs.Prelude.{◌≡◌, ◌≤◌, ◌+◌, ◌%◌, ℕ, Result, None, Some, IfSome, IsOk, OnOk, length}
 use Rattle.rlsf_base.specs.declared.memory.range.Range.{Range}
-use Rattle.rlsf_base.specs.Sizes.{pool_size_for_budget, pool_size_for_payloads, request_size}
+use Rattle.rlsf_model_sizes.specs.Sizes.{pool_size_for_budget, pool_size_for_payloads, request_size}
 use Rattle.rlsf_model.specs.Callers.{align_at, bytes_at}
 use Rattle.rlsf_model.specs.Sized.{IsSizedFor, IsSizedForBudget, live_bytes, live_count}
 use Rattle.rlsf_model.specs.State.{State}

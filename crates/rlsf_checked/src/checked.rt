@@ -3,10 +3,10 @@
 ghost use Rattle.std.specs.Prelude.{◌≡◌, ◌≢◌, ◌≤◌, ◌<◌, ◌+◌, ◌*◌, ◌^◌, ℕ, length, drop, take, nat_le, is_some, if◌then◌else◌, IfErr, IfOk, IfSome, IsErrOf, IsOk, IsSome, None, OnErr, OnOk, Some, ◌↔◌};
 ghost use Rattle.std.specs.Map.Iter.{GivesInOrder};
 ghost use Rattle.rlsf_base.specs.Addr.{at};
-ghost use Rattle.rlsf_base.specs.PowerOfTwo.{IsPowerOfTwo};
+ghost use Rattle.rlsf_model_sizes.specs.PowerOfTwo.{IsPowerOfTwo};
 ghost use Rattle.rlsf_base.specs.Range.{range_at};
-ghost use Rattle.rlsf_base.specs.SizeClass.{IsValid};
-ghost use Rattle.rlsf_base.specs.Sizes.{max_pool_size};
+ghost use Rattle.rlsf_model_sizes.specs.SizeClass.{IsValid};
+ghost use Rattle.rlsf_model_sizes.specs.Sizes.{max_pool_size};
 ghost use Rattle.rlsf_base.specs.Space.{range_of};
 ghost use Rattle.rlsf_model.specs.Allocate.{Allocates};
 ghost use Rattle.rlsf_model.specs.Callers.{align_at, bytes_at, written_over};

@@ -1,7 +1,7 @@
 //! Whether an allocator's parameters are valid.
 
 ghost use Rattle.std.specs.Prelude.{◌↔◌, ◌≡◌, IsTrue};
-ghost use Rattle.rlsf_base.specs.SizeClass.{IsValid, is_row_length};
+ghost use Rattle.rlsf_model_sizes.specs.SizeClass.{IsValid, is_row_length};
 ghost use Rattle.rlsf_checked.specs.Steps.Classes.{is_valid};
 
 use rlsf_int::Bitmap;

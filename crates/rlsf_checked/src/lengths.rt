@@ -1,8 +1,8 @@
 //! Lengths of pools, for any parameters.
 
 ghost use Rattle.std.specs.Prelude.{◌≡◌, None};
-ghost use Rattle.rlsf_base.specs.SizeClass.{IsValid};
-ghost use Rattle.rlsf_base.specs.Sizes.{pool_size_for_budget, pool_size_for_payloads, pool_size_to_contain_allocation};
+ghost use Rattle.rlsf_model_sizes.specs.SizeClass.{IsValid};
+ghost use Rattle.rlsf_model_sizes.specs.Sizes.{pool_size_for_budget, pool_size_for_payloads, pool_size_to_contain_allocation};
 
 use crate::checked::CheckedTlsf;
 use crate::classes::are_valid;

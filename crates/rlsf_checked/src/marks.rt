@@ -1,7 +1,7 @@
 //! Marks: a code of one byte for each multiple of 16 in a memory.
 
 ghost use Rattle.std.specs.Prelude.{◌≡◌, ◌≤◌, ◌^◌, ◌-◌, ◌%◌, ℕ, IfSome, suc};
-ghost use Rattle.rlsf_base.specs.PowerOfTwo.{IsPowerOfTwo, floor_log2};
+ghost use Rattle.rlsf_model_sizes.specs.PowerOfTwo.{IsPowerOfTwo, floor_log2};
 ghost use Rattle.rlsf_base.specs.Range.{end_of};
 ghost use Rattle.rlsf_base.specs.Space.{range_of};
 ghost use Rattle.rlsf_codes.specs.Codes.{HasPlace, code_at};

@@ -1,7 +1,7 @@
 //! Runs are read from their text.
 
 ghost use Rattle.std.specs.Prelude.{IfOk, IfSome};
-ghost use Rattle.rlsf_base.specs.PowerOfTwo.{IsPowerOfTwo};
+ghost use Rattle.rlsf_model_sizes.specs.PowerOfTwo.{IsPowerOfTwo};
 
 use crate::error::Failure;
 use rlsf_base::memory::{Layout, Range};

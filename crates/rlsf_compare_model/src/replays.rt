@@ -1,7 +1,7 @@
 //! Replays of runs.
 
 ghost use Rattle.std.specs.Prelude.{◌≡◌, [], IfOk, length};
-ghost use Rattle.rlsf_base.specs.PowerOfTwo.{IsPowerOfTwo};
+ghost use Rattle.rlsf_model_sizes.specs.PowerOfTwo.{IsPowerOfTwo};
 ghost use Rattle.rlsf_base.specs.Range.{LiesIn};
 ghost use Rattle.rlsf_model.specs.FlexState.{flex_empty};
 ghost use Rattle.rlsf_trace_flex_runs.specs.Listed.{ListedMayOwe};

@@ -11,8 +11,8 @@ use Rattle.std.proofs.Math.Nat.{mul-le-mul_right}
 use Rattle.std.specs.List.{AllByRecursion}
 use Rattle.rlsf_base.specs.Layout.{IsLayout}
 use Rattle.std.specs.Map.{lookup, remove_entry, set_value}
-use Rattle.rlsf_base.specs.SizeClass.{IsValid, Reaches, class_of}
-use Rattle.rlsf_base.specs.Sizes.{IsSize, pool_size_to_contain_allocation, request_size}
+use Rattle.rlsf_model_sizes.specs.SizeClass.{IsValid, Reaches, class_of}
+use Rattle.rlsf_model_sizes.specs.Sizes.{IsSize, pool_size_to_contain_allocation, request_size}
 use Rattle.rlsf_base.proofs.Numbers.Roundings.{round32-le, round32-multiple}
 use Rattle.rlsf_base.proofs.SizeMaps.Laws.{pool_contains_its_allocation}
 use Rattle.rlsf_base.specs.declared.memory.range.Range.{Range}

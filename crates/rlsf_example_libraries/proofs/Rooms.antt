@@ -8,7 +8,7 @@ use Rattle.std.proofs.Math.Nat.{mul-le-mul_right}
 use Rattle.std.specs.List.{AllByRecursion}
 use Rattle.rlsf_base.specs.Layout.{IsLayout}
 use Rattle.rlsf_base.specs.Range.{range_at}
-use Rattle.rlsf_base.specs.Sizes.{request_size}
+use Rattle.rlsf_model_sizes.specs.Sizes.{request_size}
 use Rattle.rlsf_base.specs.Space.{range_of}
 use Rattle.rlsf_base.specs.declared.memory.range.Range.{Range}
 use Rattle.rlsf_base.proofs.Numbers.Roundings.{round32-le, round32-multiple}

@@ -3,7 +3,7 @@ use Rattle.std.specs.Prelude.{◌≡◌, ℕ, ◌≤◌, List, [], ◌∷◌, le
 use Rattle.std.specs.List.{AllByRecursion}
 use Rattle.rlsf_base.specs.declared.memory.range.Range.{Range}
 use Rattle.rlsf_base.specs.Layout.{IsLayout}
-use Rattle.rlsf_base.specs.Sizes.{pool_size_for_payloads, request_size}
+use Rattle.rlsf_model_sizes.specs.Sizes.{pool_size_for_payloads, request_size}
 use Rattle.rlsf_base.specs.Space.{range_of}
 use Rattle.rlsf_model.specs.Budget.{HasBudget}
 use Rattle.rlsf_model.specs.Insert.{aligned_part}

@@ -4,7 +4,7 @@ use Rattle.std.specs.Prelude.{nat_le, nat_lt}
 use Rattle.std.specs.List.{AllByRecursion, splice}
 use Rattle.std.specs.Map.{lookup, set_value}
 use Rattle.rlsf_base.specs.declared.memory.range.Range.{Range}
-use Rattle.rlsf_base.specs.Sizes.{pool_size_to_contain_allocation, request_size}
+use Rattle.rlsf_model_sizes.specs.Sizes.{pool_size_to_contain_allocation, request_size}
 use Rattle.rlsf_example_libraries.specs.declared.objects.SetError.{SetError}
 use Rattle.rlsf_example_libraries.specs.declared.objects.SetError.TheVariants.{UnknownHandle, OutOfRange}
 

@@ -3,7 +3,7 @@ use Rattle.std.specs.Prelude.{◌≡◌, ◌≢◌, ℕ, ◌+◌, ◌<◌, ◌�
 use Rattle.std.specs.List.{splice}
 use Rattle.rlsf_base.specs.declared.memory.range.Range.{Range}
 use Rattle.rlsf_base.specs.Range.{end_of, range_at}
-use Rattle.rlsf_base.specs.Sizes.{max_pool_size, pool_size_to_contain_allocation}
+use Rattle.rlsf_model_sizes.specs.Sizes.{max_pool_size, pool_size_to_contain_allocation}
 use Rattle.rlsf_base.specs.Space.{Space, bytes_in, range_of}
 use Rattle.rlsf_blocks.specs.Blocks.{Block, walked}
 use Rattle.rlsf_model.specs.Callers.{align_at, bytes_at}

@@ -2,7 +2,7 @@
 
 ghost use Rattle.std.specs.Prelude.{◌≡◌, ◌<◌, ◌≤◌, ◌+◌, ◌↔◌, [], ◌∷◌, ◌++◌, None, Some, IfOk, OnOk, OnErr, IsErr, IsErrOf, length, nat_eq, replicate};
 ghost use Rattle.std.specs.Map.{lookup, remove_entry};
-ghost use Rattle.rlsf_base.specs.Sizes as sizes;
+ghost use Rattle.rlsf_model_sizes.specs.Sizes as sizes;
 ghost use Rattle.rlsf_base.specs.Space.{range_of};
 ghost use Rattle.std.specs.Map.Iter.{GivesInOrder};
 ghost use Rattle.rlsf_blocks.specs.Blocks.{IsInOrder};

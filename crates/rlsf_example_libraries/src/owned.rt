@@ -1,7 +1,7 @@
 //! A pool of objects of one size and alignment, each of which owns its bytes.
 
 ghost use Rattle.std.specs.Prelude.{◌≡◌, ◌+◌, ◌-◌, ◌^◌, ◌≤◌, ◌↔◌, ℕ, None, Some, IfNone, IfOk, IfSome, IsErrOf, IsNone};
-ghost use Rattle.rlsf_base.specs.Sizes.{pool_size_for_payloads};
+ghost use Rattle.rlsf_model_sizes.specs.Sizes.{pool_size_for_payloads};
 ghost use Rattle.rlsf_example_libraries.specs.Results.{IsObjectTaken};
 
 use rlsf::{Layout, Range, classes};

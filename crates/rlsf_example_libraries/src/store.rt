@@ -9,7 +9,7 @@ ghost use Rattle.rlsf_base.specs.Space.{SamePlace, bytes_in, range_of};
 ghost use Rattle.rlsf_blocks.specs.Blocks.{IsInOrder};
 ghost use Rattle.rlsf_model.specs.Insert.{aligned_part};
 ghost use Rattle.rlsf_example_libraries.specs.Budgets.{HasBudgetFor};
-ghost use Rattle.rlsf_base.specs.Sizes.{request_size};
+ghost use Rattle.rlsf_model_sizes.specs.Sizes.{request_size};
 ghost use Rattle.rlsf_base.specs.declared.memory.range.Range as declared_range;
 ghost use Rattle.rlsf_model.specs.Uniform.{IsUniform};
 ghost use Rattle.rlsf_example_libraries.specs.Tiles.{HasTileFor, KeepsUniform};

@@ -1,7 +1,7 @@
 -- The lines of the table.
 use Rattle.std.specs.Prelude.{ℕ, ◌*◌, ◌/◌, Option}
 use Rattle.std.specs.Option.{option_map}
-use Rattle.rlsf_base.specs.Sizes.{pool_size_for_objects, pool_size_for_payloads}
+use Rattle.rlsf_model_sizes.specs.Sizes.{pool_size_for_objects, pool_size_for_payloads}
 use Rattle.rlsf_example_libraries_tour.specs.declared.rows.Pool.{Pool}
 use Rattle.rlsf_example_libraries_tour.specs.declared.rows.Row.{Row}
 

@@ -3,7 +3,7 @@
 //!
 //! `rows.rt` computes the lines of the table, by the definitions in `specs/Rows.antt`.
 
-ghost use Rattle.rlsf_base.specs.SizeClass.{IsValid};
+ghost use Rattle.rlsf_model_sizes.specs.SizeClass.{IsValid};
 
 use crate::error::TourError;
 use crate::rows::row_for;

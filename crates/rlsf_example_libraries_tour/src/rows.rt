@@ -1,7 +1,7 @@
 //! Rows of the table: how long pools are for so many payloads, and how much of each is payload.
 
 ghost use Rattle.std.specs.Prelude.{◌≡◌, ◌*◌, ◌<◌, ◌≤◌};
-ghost use Rattle.rlsf_base.specs.SizeClass.{IsValid};
+ghost use Rattle.rlsf_model_sizes.specs.SizeClass.{IsValid};
 ghost use Rattle.rlsf_example_libraries_tour.specs.Rows as rows;
 
 use rlsf::Layout;

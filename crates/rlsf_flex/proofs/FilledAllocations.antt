@@ -1,8 +1,8 @@
 -- A payload that an allocator over a source allocated and then filled is one that was allocated with these bytes.
 use Rattle.std.proofs.Common.{◌≡◌, ℕ, List, Some, inl, inr, arith, ◌∙◌, ap, subst}
 use Rattle.rlsf_base.specs.declared.memory.range.Range.{Range}
-use Rattle.rlsf_base.specs.PowerOfTwo.{IsPowerOfTwo}
-use Rattle.rlsf_base.specs.SizeClass.{IsValid}
+use Rattle.rlsf_model_sizes.specs.PowerOfTwo.{IsPowerOfTwo}
+use Rattle.rlsf_model_sizes.specs.SizeClass.{IsValid}
 use Rattle.rlsf_base.specs.Space.{SamePlace}
 use Rattle.rlsf_tlsf.specs.Allocator.{Allocator}
 use Rattle.rlsf_flex.specs.StandsFor.{FillsAlone, FlexContents, FlexStandsFor, FlexSteps, StepsAlone, with_allocator}

@@ -4,7 +4,7 @@ use Rattle.std.specs.Bool.{then_some}
 use Rattle.std.proofs.lemmas.Option.{same_Some}
 use Rattle.rlsf_base.specs.declared.memory.range.Range.{Range}
 use Rattle.rlsf_base.specs.Range.{end_of, LiesIn}
-use Rattle.rlsf_base.specs.SizeClass.{IsValid}
+use Rattle.rlsf_model_sizes.specs.SizeClass.{IsValid}
 use Rattle.rlsf_base.specs.Space.{Space, range_of, SamePlace}
 use Rattle.rlsf_blocks.specs.Spare.{KeepsSpare}
 use Rattle.rlsf_tlsf.specs.Allocator.{Allocator, IsInState}

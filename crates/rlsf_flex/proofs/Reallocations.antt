@@ -4,8 +4,8 @@ use Rattle.std.proofs.lemmas.Option.{none-some}
 use Rattle.std.specs.declared.num.NonZeroUsize.{NonZeroUsize}
 use Rattle.rlsf_base.specs.Addr.{at, reply}
 use Rattle.rlsf_base.specs.declared.memory.range.Range.{Range}
-use Rattle.rlsf_base.specs.SizeClass.{IsValid}
-use Rattle.rlsf_base.specs.Sizes.{pool_size_to_contain_allocation}
+use Rattle.rlsf_model_sizes.specs.SizeClass.{IsValid}
+use Rattle.rlsf_model_sizes.specs.Sizes.{pool_size_to_contain_allocation}
 use Rattle.rlsf_base.specs.Space.{SamePlace}
 use Rattle.rlsf_tlsf.specs.Allocator.{Allocator, Steps}
 use Rattle.rlsf_tlsf.specs.Results.{IsReallocated}

@@ -1,7 +1,7 @@
 -- A chunk that has held one long payload has room for many short ones.
 use Rattle.std.proofs.Common.{◌≡◌, ℕ, length, arith, sym, ◌∙◌, ap, subst}
 use Rattle.rlsf_base.specs.declared.memory.range.Range.{Range}
-use Rattle.rlsf_base.specs.SizeClass.{IsValid}
+use Rattle.rlsf_model_sizes.specs.SizeClass.{IsValid}
 use Rattle.rlsf_flex.specs.Results.{SizesFreedRoom}
 use Rattle.rlsf_model.specs.Callers.{bytes_at}
 use Rattle.rlsf_model.specs.Lists.{IsIn}

@@ -1,7 +1,7 @@
 -- What the calls of an allocator over a source ensure by the clauses `room`, `refused` and `frame`. The records of the clause `result` are those of
 -- an allocator over pools.
 use Rattle.std.specs.Prelude.{◌≡◌, ◌≢◌, ℕ, ◌+◌, ◌≤◌, length, Some}
-use Rattle.rlsf_base.specs.Sizes.{pool_size_for_payloads}
+use Rattle.rlsf_model_sizes.specs.Sizes.{pool_size_for_payloads}
 use Rattle.rlsf_base.specs.Space.{SamePlace}
 use Rattle.rlsf_blocks.specs.Spare.{KeepsSpare}
 use Rattle.rlsf_tlsf.specs.Bounds.{IfWithinBounds}

@@ -2,7 +2,7 @@
 use Rattle.std.specs.Prelude.{◌≡◌, ℕ, true, List, [], Option}
 use Rattle.std.specs.Option.{option_map}
 use Rattle.rlsf_base.specs.declared.memory.range.Range.{Range}
-use Rattle.rlsf_base.specs.SizeClass.{IsValid}
+use Rattle.rlsf_model_sizes.specs.SizeClass.{IsValid}
 use Rattle.rlsf_base.specs.Space.{Space, range_of}
 use Rattle.rlsf_table.specs.Table.{Table}
 use Rattle.rlsf_blocks.specs.Spare.{KeepsSpare}

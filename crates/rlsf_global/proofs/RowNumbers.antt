@@ -2,7 +2,7 @@
 use Rattle.std.proofs.Common.{◌≡◌, ◌≢◌, ◌⊎◌, ℕ, ◌+◌, ◌^◌, ◌<◌, ◌≤◌, ◌==◌, nat_le, true, false, List, Option, Some, None, arith, ap, ap₂, refl, inl, inr}
 use Rattle.std.proofs.lemmas.Bool.Decides.{eqb_tells, leb_tells}
 use Rattle.std.specs.declared.num.NonZeroUsize.{NonZeroUsize}
-use Rattle.rlsf_base.specs.PowerOfTwo.{floor_log2}
+use Rattle.rlsf_model_sizes.specs.PowerOfTwo.{floor_log2}
 use Rattle.rlsf_base.specs.declared.memory.layout.Layout.{Layout}
 use Rattle.rlsf_model_global.proofs.EqualNumbers.{same_address, same_layout}
 use Rattle.rlsf_model_global.specs.Rows.{Row, key, put}

@@ -2,7 +2,7 @@
 use Rattle.std.specs.Prelude.{◌≡◌, ℕ, ◌+◌, ◌*◌, ◌^◌, ◌<◌, ◌≤◌, ◌%◌, List, Option, Some, None, length}
 use Rattle.std.specs.Vec.{vec_capacity}
 use Rattle.rlsf_base.specs.declared.memory.layout.Layout.{Layout}
-use Rattle.rlsf_base.specs.PowerOfTwo.{floor_log2}
+use Rattle.rlsf_model_sizes.specs.PowerOfTwo.{floor_log2}
 use Rattle.rlsf_codes.specs.Codes.{CodeSpace, HasCapacity, code_at, code_space, look_count}
 use Rattle.rlsf_codes.specs.declared.codes.Codes.{Codes}
 use Rattle.rlsf_model.specs.Lists.{IsIn}

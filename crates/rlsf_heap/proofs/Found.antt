@@ -3,7 +3,7 @@ use Rattle.std.proofs.Common.{◌≡◌, ℕ, ◌+◌, Option, arith, refl, sym,
 use Rattle.rlsf_base.specs.Layout.{IsLayout}
 use Rattle.rlsf_base.specs.OpenSpace.{IsAway}
 use Rattle.rlsf_base.specs.Piece.{Piece, piece_range}
-use Rattle.rlsf_base.specs.Sizes.{request_size}
+use Rattle.rlsf_model_sizes.specs.Sizes.{request_size}
 use Rattle.rlsf_model.specs.Sized.{live_bytes}
 use Rattle.rlsf_model.specs.State.{State}
 use Rattle.rlsf_heap.specs.Frame.{KeepsBytes, KeepsFrame, KeepsHeap, KeepsSized}

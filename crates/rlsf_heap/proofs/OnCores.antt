@@ -3,7 +3,7 @@ use Rattle.std.proofs.Common.{◌≡◌, ℕ, ◌≤◌, Bool, false, List, leng
 use Rattle.std.proofs.Common.{inr}
 use Rattle.rlsf_base.specs.Ledger.{Entry, Extent, entry_of}
 use Rattle.rlsf_base.specs.OpenSpace.{Home, home_of, IsOwned, out_without}
-use Rattle.rlsf_base.specs.SizeClass.{IsValid}
+use Rattle.rlsf_model_sizes.specs.SizeClass.{IsValid}
 use Rattle.rlsf_base.specs.Space.{Space, out_at}
 use Rattle.rlsf_model.specs.Sized.{live_count}
 use Rattle.rlsf_model.specs.State.{State, Used, usable}

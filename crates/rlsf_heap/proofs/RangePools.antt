@@ -7,7 +7,7 @@ use Rattle.std.specs.Prelude.{◌⊎◌, not}
 use Rattle.rlsf_base.specs.declared.memory.range.Range.{Range}
 use Rattle.rlsf_base.specs.Addr.{at, reply}
 use Rattle.rlsf_base.specs.Range.{AreApart, end_of, range_at}
-use Rattle.rlsf_base.specs.Sizes.{max_pool_size}
+use Rattle.rlsf_model_sizes.specs.Sizes.{max_pool_size}
 use Rattle.rlsf_base.proofs.Numbers.Roundings.{round32-le}
 use Rattle.rlsf_model.specs.Insert.{Inserts, IsUntouched, aligned_part, bytes_taken, cut, end_of_last}
 use Rattle.rlsf_model.specs.Lists.{IsIn}

@@ -8,7 +8,7 @@ use Rattle.rlsf_base.specs.MemoryCalls.{IsSpaceWith}
 use Rattle.rlsf_base.specs.OpenSpace.{IsOwned, out_raw, SameOwn, IsReadable, out_without}
 use Rattle.rlsf_base.specs.Piece.{Piece}
 use Rattle.rlsf_base.specs.Range.{range_at, LiesIn, end_of}
-use Rattle.rlsf_base.specs.Sizes.{request_size}
+use Rattle.rlsf_model_sizes.specs.Sizes.{request_size}
 use Rattle.rlsf_base.specs.Out.{is_own}
 use Rattle.rlsf_base.specs.Space.{Space, out_at, word_at}
 use Rattle.rlsf_model.specs.Callers.{bytes_at}
@@ -45,7 +45,7 @@ use Rattle.rlsf_model.specs.Allocate.{Allocates, placed}
 use Rattle.rlsf_model.specs.Lists.{IsIn}
 use Rattle.rlsf_tlsf.specs.CoreResizes.{KeepsPayloadsResizing}
 use Rattle.rlsf_heap.specs.ThinUnknownAlign.{renewed_entries}
-use Rattle.rlsf_base.specs.PowerOfTwo.{IsPowerOfTwo}
+use Rattle.rlsf_model_sizes.specs.PowerOfTwo.{IsPowerOfTwo}
 use Rattle.rlsf_model.specs.Payload.{payload_of}
 use Rattle.rlsf_heap.specs.Units.{payload_len}
 use Rattle.rlsf_base.proofs.Lending.Present.{own-word}

@@ -7,7 +7,7 @@ use Rattle.rlsf_base.specs.MemoryCalls.{CountsNothing, IsTakenOut}
 use Rattle.rlsf_base.specs.OpenSpace.{IsAway, IsBeside, IsOwned}
 use Rattle.rlsf_base.specs.Piece.{IsFull, Piece, piece_range}
 use Rattle.rlsf_base.specs.Range.{AreApart, end_of, range_at}
-use Rattle.rlsf_base.specs.Rounding.{round32}
+use Rattle.rlsf_model_sizes.specs.Rounding.{round32}
 use Rattle.rlsf_base.specs.Space.{bytes_in, out_at}
 use Rattle.rlsf_model.specs.Callers.{align_at}
 use Rattle.rlsf_model.specs.ChunkRows.{IsRow}

@@ -1,7 +1,7 @@
 -- What the allocations and reallocations of a heap return.
 use Rattle.std.specs.Prelude.{◌≡◌, ◌≢◌, ℕ, ◌+◌, ◌%◌, ◌<◌, ◌≤◌, length, replicate, slice_index, Some, None}
 use Rattle.rlsf_base.specs.Layout.{IsLayout}
-use Rattle.rlsf_base.specs.Sizes.{request_size}
+use Rattle.rlsf_model_sizes.specs.Sizes.{request_size}
 use Rattle.rlsf_model.specs.Callers.{align_at, bytes_at}
 use Rattle.rlsf_model.specs.Reallocate.{Keeps}
 use Rattle.rlsf_model.specs.Sized.{live_bytes, live_count}

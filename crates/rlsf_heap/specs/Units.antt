@@ -2,7 +2,7 @@
 use Rattle.std.specs.Prelude.{◌≡◌, ◌≢◌, ℕ, ◌+◌, ◌-◌, ◌%◌, Option, Some, None, Result, Ok, Err}
 use Rattle.rlsf_base.specs.declared.memory.unit_payload.UnitPayload.{UnitPayload}
 use Rattle.rlsf_base.specs.Range.{range_at}
-use Rattle.rlsf_base.specs.Rounding.{round32}
+use Rattle.rlsf_model_sizes.specs.Rounding.{round32}
 use Rattle.rlsf_model.specs.Callers.{align_at}
 use Rattle.rlsf_model.specs.Sized.{live_count}
 use Rattle.rlsf_heap.specs.Heap.{HeapView, Identity}

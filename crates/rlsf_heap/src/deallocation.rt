@@ -3,7 +3,7 @@ ghost use Rattle.std.specs.Prelude.{◌≡◌, ◌≤◌, ◌+◌, IfSome, Some,
 ghost use Rattle.rlsf_base.specs.Ledger.{extent};
 ghost use Rattle.rlsf_base.specs.OpenSpace.{IsAway};
 ghost use Rattle.rlsf_base.specs.Piece.{CanCome, IsFull, piece_range};
-ghost use Rattle.rlsf_base.specs.Sizes.{request_size};
+ghost use Rattle.rlsf_model_sizes.specs.Sizes.{request_size};
 ghost use Rattle.rlsf_model.specs.Callers.{align_at};
 ghost use Rattle.rlsf_model.specs.Release.{Deallocates};
 ghost use Rattle.rlsf_model.specs.Sized.{live_bytes};

@@ -4,7 +4,7 @@ ghost use Rattle.rlsf_base.specs.OpenSpace.{home_of, IsOwned};
 ghost use Rattle.rlsf_base.specs.Piece.{piece_range, IsFull};
 ghost use Rattle.rlsf_base.specs.declared.memory.range.Range.{Range};
 ghost use Rattle.rlsf_base.specs.Range.{AreApart, LiesIn, range_at};
-ghost use Rattle.rlsf_base.specs.SizeClass.{IsValid};
+ghost use Rattle.rlsf_model_sizes.specs.SizeClass.{IsValid};
 ghost use Rattle.rlsf_model.specs.Insert.{IsUntouched};
 ghost use Rattle.rlsf_model.specs.Remove.{IsIdle};
 ghost use Rattle.rlsf_model.specs.Sized.{live_count};

@@ -3,7 +3,7 @@ ghost use Rattle.std.specs.Prelude.{◌≡◌, ◌≤◌, ◌+◌, ◌*◌, ℕ,
 ghost use Rattle.rlsf_base.specs.Addr.{reply};
 ghost use Rattle.rlsf_base.specs.declared.memory.range.Range.{Range};
 ghost use Rattle.rlsf_base.specs.Range.{AreApart, LiesIn};
-ghost use Rattle.rlsf_base.specs.Sizes.{max_pool_size};
+ghost use Rattle.rlsf_model_sizes.specs.Sizes.{max_pool_size};
 ghost use Rattle.rlsf_base.specs.Space.{range_of};
 ghost use Rattle.rlsf_model.specs.ChunkRows.{IsRow};
 ghost use Rattle.rlsf_model.specs.Insert.{Appends, Inserts, IsNext, IsUntouched, aligned_part, cut};

@@ -6,7 +6,7 @@ ghost use Rattle.rlsf_int.specs.Bits.{bit};
 ghost use Rattle.rlsf_base.specs.Addr.{reply};
 ghost use Rattle.rlsf_base.specs.declared.memory.range.Range.{Range};
 ghost use Rattle.rlsf_base.specs.Range.{end_of};
-ghost use Rattle.rlsf_base.specs.SizeClass.{class_at};
+ghost use Rattle.rlsf_model_sizes.specs.SizeClass.{class_at};
 ghost use Rattle.rlsf_model.specs.Allocate.{has_class};
 ghost use Rattle.rlsf_model.specs.ChunkRows.{IsRow};
 ghost use Rattle.rlsf_model.specs.Lists.{IsIn};

@@ -2,7 +2,7 @@
 ghost use Rattle.std.specs.Prelude.{◌≡◌, ◌≤◌, ◌<◌, ◌+◌, ◌-◌, ◌^◌, Some, true, false, length, IfSome};
 ghost use Rattle.rlsf_base.specs.Ledger.{extent, IsIssued};
 ghost use Rattle.rlsf_base.specs.Piece.{IsFull};
-ghost use Rattle.rlsf_base.specs.Rounding.{round32};
+ghost use Rattle.rlsf_model_sizes.specs.Rounding.{round32};
 ghost use Rattle.rlsf_model.specs.Callers.{align_at};
 ghost use Rattle.rlsf_model.specs.NoMove.{ReallocatesWithoutMove};
 ghost use Rattle.rlsf_tlsf.specs.CoreResizes.{stayed_if};

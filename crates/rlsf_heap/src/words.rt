@@ -1,7 +1,7 @@
 //! The words of a heap, whatever their values are.
 
 ghost use Rattle.std.specs.Prelude.{◌≡◌, ◌↔◌, true};
-ghost use Rattle.rlsf_base.specs.SizeClass.{IsValid};
+ghost use Rattle.rlsf_model_sizes.specs.SizeClass.{IsValid};
 ghost use Rattle.rlsf_blocks.specs.Consistency.Consistent.{AreConsistent, ArePoolsLegible};
 
 use rlsf_base::memory::OpenMemory;

@@ -7,8 +7,8 @@ pub use Rattle.rlsf_base.specs.OpenSpace.{home_of}
 pub use Rattle.rlsf_base.specs.Piece.{IsFull, Piece, piece_range}
 pub use Rattle.rlsf_base.specs.Range.{AreApart, LiesIn, end_of, range_at}
 pub use Rattle.rlsf_base.specs.RawParts.{LiesAtBlock}
-pub use Rattle.rlsf_base.specs.SizeClass.{IsValid}
-pub use Rattle.rlsf_base.specs.Sizes.{pool_size_for_budget, pool_size_for_payloads, request_size}
+pub use Rattle.rlsf_model_sizes.specs.SizeClass.{IsValid}
+pub use Rattle.rlsf_model_sizes.specs.Sizes.{pool_size_for_budget, pool_size_for_payloads, request_size}
 pub use Rattle.rlsf_base.specs.Space.{Space, range_of}
 -- of the state of a heap
 pub use Rattle.rlsf_model.specs.Callers.{align_at, bytes_at}

@@ -1,7 +1,7 @@
 -- What no call of an allocator of collections changes of its heap.
 use Rattle.std.specs.Prelude.{ℕ, List}
 use Rattle.rlsf_base.specs.declared.memory.range.Range.{Range}
-use Rattle.rlsf_base.specs.Sizes.{max_pool_size}
+use Rattle.rlsf_model_sizes.specs.Sizes.{max_pool_size}
 use Rattle.rlsf_heap.specs.Heap.{HeapView, Identity}
 use Rattle.rlsf_model.specs.Insert.{aligned_part, cut, with_chunks}
 use Rattle.rlsf_model.specs.State.{empty}

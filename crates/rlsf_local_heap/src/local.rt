@@ -2,7 +2,7 @@
 ghost use Rattle.std.specs.Prelude.{◌≡◌, ◌↔◌, ◌+◌, ◌*◌, ◌^◌, ◌<◌, ◌≤◌, min, IfOk, IfSome, IsErrOf, MatchResult};
 ghost use Rattle.std.specs.Mem.{type_size};
 ghost use Rattle.rlsf_base.specs.Range.{range_at};
-ghost use Rattle.rlsf_base.specs.SizeClass.{IsValid};
+ghost use Rattle.rlsf_model_sizes.specs.SizeClass.{IsValid};
 ghost use Rattle.rlsf_heap.specs.Units.{GivesUnits, IsCompleteOf, identity_of, payload_len};
 ghost use Rattle.rlsf_local_heap.specs.Constants.{chunks_of_range, constants_of};
 ghost use Rattle.rlsf_local_heap.specs.Ownership.{block_token};

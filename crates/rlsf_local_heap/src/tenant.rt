@@ -4,7 +4,7 @@ ghost use Rattle.rlsf_model.specs.Allocate.{Allocates};
 ghost use Rattle.rlsf_model.specs.Callers.{align_at};
 ghost use Rattle.rlsf_model.specs.Release.{Deallocates};
 ghost use Rattle.rlsf_base.specs.Range.{range_at};
-ghost use Rattle.rlsf_base.specs.SizeClass.{IsValid};
+ghost use Rattle.rlsf_model_sizes.specs.SizeClass.{IsValid};
 
 use crate::lease::{Lease, START};
 use crate::local::LocalHeap;

@@ -2,7 +2,7 @@
 ghost use Rattle.std.specs.Prelude.{◌≡◌, ◌-◌, ◌^◌, ◌<◌, ◌≤◌, ℕ, Option, min, IfSome, MatchResult};
 ghost use Rattle.rlsf_base.specs.Changes.{IsAllOwn};
 ghost use Rattle.rlsf_base.specs.OpenSpace.{home_of};
-ghost use Rattle.rlsf_base.specs.SizeClass.{IsValid};
+ghost use Rattle.rlsf_model_sizes.specs.SizeClass.{IsValid};
 ghost use Rattle.rlsf_base.specs.Space.{range_of};
 ghost use Rattle.rlsf_model.specs.Insert.{Inserts};
 ghost use Rattle.rlsf_model.specs.State.{empty};

@@ -16,7 +16,7 @@ use prog.Memory.{size}
 use prog.Model.{Model}
 use seplogic.Ra.Ura.{Ura}
 use types.Logic.{Logic}
-use Rattle.rlsf_base.specs.SizeClass.{IsValid}
+use Rattle.rlsf_model_sizes.specs.SizeClass.{IsValid}
 use Rattle.rlsf_int.specs.contracts.int.BitPattern.TheBound
 use Rattle.rlsf_int.specs.declared.int.BitPattern.{Ghosts}
 use Rattle.rlsf_int.specs.contracts.impls.u16.U16BitPattern.TheImpl as impl16

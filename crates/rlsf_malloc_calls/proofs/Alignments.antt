@@ -1,7 +1,7 @@
 -- Where payloads lie whose alignment is 16 or above.
 use Rattle.std.proofs.Common.{◌≡◌, ◌≢◌, ◌⊎◌, ℕ, zero, suc, ◌+◌, ◌*◌, ◌%◌, ◌^◌, ◌<◌, ◌≤◌, Some, arith, sym, ◌∙◌, ap, subst}
 use Rattle.std.proofs.Common.{inl, inr, pow-add, pow_pos}
-use Rattle.rlsf_base.specs.PowerOfTwo.{floor_log2}
+use Rattle.rlsf_model_sizes.specs.PowerOfTwo.{floor_log2}
 use Rattle.rlsf_model.specs.Callers.{align_at}
 use Rattle.rlsf_model.specs.Payload.{payload_of}
 use Rattle.rlsf_model.specs.State.{Used}

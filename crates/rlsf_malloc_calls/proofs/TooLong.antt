@@ -1,6 +1,6 @@
 -- A payload that is too long for every chunk is refused.
 use Rattle.std.proofs.Common.{◌≡◌, ℕ, ◌+◌, ◌*◌, ◌^◌, ◌<◌, ◌-◌, None, arith, refl, sym, subst, pow-add}
-use Rattle.rlsf_base.specs.Sizes.{request_size}
+use Rattle.rlsf_model_sizes.specs.Sizes.{request_size}
 use Rattle.rlsf_base.proofs.Numbers.Roundings.{round32-le}
 use Rattle.rlsf_base.proofs.SizeClasses.Reach.{IsValidClass-class_of, Reaches-class_of}
 use Rattle.rlsf_model.specs.Allocate as machine

@@ -5,7 +5,7 @@ use Rattle.rlsf_base.specs.Changes.{left}
 use Rattle.rlsf_base.specs.Layout.{IsLayout}
 use Rattle.rlsf_base.specs.Piece.{IsFull, Piece, piece_range}
 use Rattle.rlsf_base.specs.OpenSpace.{IsAway, IsOwned, home_of, place_in}
-use Rattle.rlsf_base.specs.Rounding.{round32}
+use Rattle.rlsf_model_sizes.specs.Rounding.{round32}
 use Rattle.rlsf_base.specs.Range.{AreApart, LiesIn, range_at}
 use Rattle.rlsf_base.specs.Space.{Space, range_of}
 use Rattle.rlsf_base.specs.declared.memory.range.Range.{Range}

@@ -1,7 +1,7 @@
 -- Lengths of pools.
 use Rattle.std.specs.Prelude.{◌≡◌, ℕ, Option, Some, None}
 use Rattle.rlsf_base.specs.Layout.{IsLayout}
-use Rattle.rlsf_base.specs.Sizes.{pool_size_for_budget, pool_size_to_contain_allocation}
+use Rattle.rlsf_model_sizes.specs.Sizes.{pool_size_for_budget, pool_size_to_contain_allocation}
 
 -- a length, or 0 where there is none
 abbrev pub or_zero : Option ℕ → ℕ

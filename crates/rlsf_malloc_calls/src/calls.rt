@@ -2,7 +2,7 @@
 
 ghost use Rattle.std.specs.Prelude.{false, ◌%◌, ◌+◌, ◌-◌, ◌<◌, ◌≤◌, ◌^◌, ◌≡◌, ◌≢◌};
 ghost use Rattle.rlsf_base.specs.Range.{range_at};
-ghost use Rattle.rlsf_base.specs.SizeClass.{IsValid};
+ghost use Rattle.rlsf_model_sizes.specs.SizeClass.{IsValid};
 ghost use Rattle.rlsf_model.specs.Sized.{live_count};
 ghost use Rattle.rlsf_base.specs.Addr.{reply, reply_of};
 ghost use Rattle.rlsf_malloc_calls.specs.Calls.{AddsLent, AppendsLent, CanAppend, AllocatesPayload, AllocatesZeroed, CanLend, Frees, IsAllOut, IsPayloadAt, IsOver, IsReady, IsUsableSize, OwnsLent, aligned_for};

@@ -1,7 +1,7 @@
 //! Lengths of pools.
 
 ghost use Rattle.std.specs.Prelude.{◌≡◌};
-ghost use Rattle.rlsf_base.specs.SizeClass.{IsValid};
+ghost use Rattle.rlsf_model_sizes.specs.SizeClass.{IsValid};
 ghost use Rattle.rlsf_malloc_calls.specs.Lengths.{IsPoolSizeForBudget, IsPoolSizeOf};
 
 use rlsf_base::classes;

@@ -1,10 +1,10 @@
 -- An allocation leaves a state well-formed.
 use Rattle.std.proofs.Common.{◌≡◌, ℕ, ◌-◌, ◌<◌, ◌≤◌, List, ◌∷◌, ◌++◌, Option, Some, None, length, arith, refl, sym, ◌∙◌, ap, subst, inl, inr}
 use Rattle.rlsf_base.specs.declared.memory.range.Range.{Range}
-use Rattle.rlsf_base.specs.PowerOfTwo.{IsPowerOfTwo}
+use Rattle.rlsf_model_sizes.specs.PowerOfTwo.{IsPowerOfTwo}
 use Rattle.rlsf_base.specs.Range.{end_of}
-use Rattle.rlsf_base.specs.SizeClass.{class_of}
-use Rattle.rlsf_base.specs.Sizes.{request_size}
+use Rattle.rlsf_model_sizes.specs.SizeClass.{class_of}
+use Rattle.rlsf_model_sizes.specs.Sizes.{request_size}
 use Rattle.rlsf_base.proofs.SizeClasses.Reach.{Reaches-class_of}
 use Rattle.rlsf_model.specs.Allocate.{has_class, choice, rest_behind, placed, given, Allocates}
 use Rattle.rlsf_model.specs.Lists.{IsIn, without}

@@ -3,7 +3,7 @@ use Rattle.std.proofs.Common.{◌≡◌, ℕ, zero, suc, ◌+◌, ◌*◌, ◌/�
 use Rattle.std.proofs.lemmas.Bool.{eqb-true}
 use Rattle.rlsf_base.specs.declared.memory.range.Range.{Range}
 use Rattle.rlsf_base.specs.Range.{AreApart, end_of, range_at}
-use Rattle.rlsf_base.specs.Sizes.{max_pool_size}
+use Rattle.rlsf_model_sizes.specs.Sizes.{max_pool_size}
 use Rattle.rlsf_model.specs.Insert.{aligned_part, appended, Appends, bytes_taken, cut, extended, grown_if, IsUntouched, with_chunks}
 use Rattle.rlsf_model.specs.Join.{ends_at}
 use Rattle.rlsf_model.specs.State.{State}

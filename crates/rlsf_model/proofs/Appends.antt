@@ -5,7 +5,7 @@ use Rattle.std.proofs.lemmas.Bool.{eqb-true}
 use Rattle.std.proofs.Math.Pow.{pow_mono}
 use Rattle.rlsf_base.specs.declared.memory.range.Range.{Range}
 use Rattle.rlsf_base.specs.Range.{end_of, range_at}
-use Rattle.rlsf_base.specs.Sizes.{max_pool_size}
+use Rattle.rlsf_model_sizes.specs.Sizes.{max_pool_size}
 use Rattle.rlsf_base.proofs.SizeClasses.Reach.{IsValidClass-class_of}
 use Rattle.rlsf_model.specs.Insert.{cut, aligned_part, with_chunks, IsFresh, grown, grown_if, extended, appended, Appends}
 use Rattle.rlsf_model.specs.Join.{ends_at}

@@ -6,8 +6,8 @@ use Rattle.std.proofs.lemmas.List.Sums.{sum_by-cons}
 use Rattle.std.proofs.lemmas.List.Filters.{length-filter_both}
 use Rattle.std.proofs.Math.Nat.{mul-le-mul_right}
 use Rattle.rlsf_base.specs.declared.memory.range.Range.{Range}
-use Rattle.rlsf_base.specs.PowerOfTwo.{IsPowerOfTwo}
-use Rattle.rlsf_base.specs.Sizes.{request_size}
+use Rattle.rlsf_model_sizes.specs.PowerOfTwo.{IsPowerOfTwo}
+use Rattle.rlsf_model_sizes.specs.Sizes.{request_size}
 use Rattle.rlsf_base.proofs.Numbers.Roundings.{round32-mono}
 use Rattle.rlsf_model.specs.Allocate.{placed, Allocates}
 use Rattle.rlsf_model.specs.Budget.{total_len, used_bytes, AreFronts, AreAtMost, IsModest, IsFrugal, IsRequest, RunsFrugally, RunsModestly, HasBudget, HasRoomForBudget, IsDenied, live_after, AsksWithin, AreWithin}

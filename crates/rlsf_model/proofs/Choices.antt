@@ -3,7 +3,7 @@ use Rattle.std.proofs.Common.{◌≡◌, ℕ, ◌*◌, true, cond, true≢false,
 use Rattle.std.proofs.Common.{arith, refl, sym, ◌∙◌, ap, subst, inl, inr}
 use Rattle.std.proofs.lemmas.Bool.{cases_lt, leb-true, le-leb, lt-ltb, le-ltb, eqb-true, eq-eqb, and_parts, and_from}
 use Rattle.rlsf_base.specs.declared.memory.range.Range.{Range}
-use Rattle.rlsf_base.specs.SizeClass.{SizeClass, class_of, class_start, reaches, Reaches, IsAtMost}
+use Rattle.rlsf_model_sizes.specs.SizeClass.{SizeClass, class_of, class_start, reaches, Reaches, IsAtMost}
 use Rattle.rlsf_base.proofs.SizeClasses.Order.{IsAtMost-refl, IsAtMost-trans, IsAtMost-total, IsAtMost-antisymm}
 use Rattle.rlsf_model.specs.Lists.{IsIn}
 use Rattle.rlsf_model.specs.Allocate.{is_at_most, has_class, earlier, least_reaching, choice}

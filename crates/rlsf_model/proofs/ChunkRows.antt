@@ -5,8 +5,8 @@ use Rattle.std.proofs.lemmas.Bool.Decides.{nat_tests}
 use Rattle.std.proofs.lemmas.Bool.{cases_lt, eq-eqb, eqb-true}
 use Rattle.rlsf_base.specs.declared.memory.range.Range.{Range}
 use Rattle.rlsf_base.specs.Range.{end_of, range_at}
-use Rattle.rlsf_base.specs.Rounding.{round32}
-use Rattle.rlsf_base.specs.Sizes.{max_pool_size}
+use Rattle.rlsf_model_sizes.specs.Rounding.{round32}
+use Rattle.rlsf_model_sizes.specs.Sizes.{max_pool_size}
 use Rattle.rlsf_model.specs.ChunkRows.{IsRow}
 use Rattle.rlsf_model.specs.Insert.{adjacent, remainder, cut, aligned_part, with_chunks, end_of_last, bytes_taken, grown_if, extended, appended, appended_bytes}
 use Rattle.rlsf_model.specs.Insert.{IsClear, Inserts, Appends}

@@ -9,7 +9,7 @@ use Rattle.std.proofs.Math.Nat.{div-mul-le_self}
 use Rattle.std.proofs.Math.Pow.{pow_mono}
 use Rattle.rlsf_base.specs.declared.memory.range.Range.{Range}
 use Rattle.rlsf_base.specs.Range.{end_of, range_at}
-use Rattle.rlsf_base.specs.Sizes.{max_pool_size}
+use Rattle.rlsf_model_sizes.specs.Sizes.{max_pool_size}
 use Rattle.rlsf_model.specs.Insert.{adjacent, remainder, cut, body, end_of_last}
 use Rattle.rlsf_model.specs.Laws.{IsCutOff, ChunksAreCutOffTheFront}
 use Rattle.rlsf_model.specs.Lists.{IsIn}

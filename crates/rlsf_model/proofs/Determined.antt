@@ -2,7 +2,7 @@
 use mathlib.Core.Path.{ap₂}
 use Rattle.std.proofs.Common.{◌≡◌, ℕ, cond, not, eqb, filter, map, List, [], ◌∷◌, Option, Some, None, refl, sym, ◌∙◌, ap, subst, inr}
 use Rattle.rlsf_base.specs.declared.memory.range.Range.{Range}
-use Rattle.rlsf_base.specs.Sizes.{max_pool_size}
+use Rattle.rlsf_model_sizes.specs.Sizes.{max_pool_size}
 use Rattle.rlsf_model.specs.Allocate.{placed, given, Allocates}
 use Rattle.rlsf_model.specs.Insert.{cut, aligned_part, bytes_taken, with_chunks, Inserts, Appends}
 use Rattle.rlsf_model.specs.Join.{join}

@@ -6,9 +6,9 @@ use Rattle.std.specs.Option.{is_some}
 use Rattle.std.proofs.lemmas.Bool.{and_parts, leb-true, eqb-true}
 use Rattle.std.proofs.lemmas.List.{length-replicate, take-append-le, take-take}
 use Rattle.rlsf_base.specs.declared.memory.range.Range.{Range}
-use Rattle.rlsf_base.specs.PowerOfTwo.{floor_log2}
+use Rattle.rlsf_model_sizes.specs.PowerOfTwo.{floor_log2}
 use Rattle.rlsf_base.specs.Range.{end_of}
-use Rattle.rlsf_base.specs.Sizes.{max_pool_size, request_size}
+use Rattle.rlsf_model_sizes.specs.Sizes.{max_pool_size, request_size}
 use Rattle.rlsf_model.specs.Allocate.{choice, placed, given, Allocates}
 use Rattle.rlsf_model.specs.Insert.{cut, aligned_part, bytes_taken, with_chunks, appended, appended_bytes, IsFresh, IsNext, IsVacant}
 use Rattle.rlsf_model.specs.Join.{ends_at}

@@ -1,7 +1,7 @@
 -- Runs over a source whose calls keep to a budget, so that it is never asked.
 use Rattle.std.proofs.Common.{◌≡◌, ℕ, ◌≤◌, List, [], ◌∷◌, ◌++◌, length, Option, Some, None, refl, sym, ◌∙◌, ap, subst, inl, inr}
 use Rattle.rlsf_base.specs.declared.memory.range.Range.{Range}
-use Rattle.rlsf_base.specs.Sizes.{request_size}
+use Rattle.rlsf_model_sizes.specs.Sizes.{request_size}
 use Rattle.rlsf_model.specs.Allocate.{Allocates}
 use Rattle.rlsf_model.specs.Budget.{AreAtMost, AreFronts, AreWithin, HasBudget, IsModest, live_after}
 use Rattle.rlsf_model.specs.FlexAllocate.{FlexAllocates}

@@ -5,8 +5,8 @@ use Rattle.std.specs.Bool.{then_some}
 use Rattle.std.specs.Option.{is_some, IfSome}
 use Rattle.std.proofs.lemmas.Bool.{and_parts, leb-true, eqb-true}
 use Rattle.rlsf_base.specs.declared.memory.range.Range.{Range}
-use Rattle.rlsf_base.specs.PowerOfTwo.{floor_log2}
-use Rattle.rlsf_base.specs.Sizes.{max_pool_size, pool_size_to_contain_allocation, request_size}
+use Rattle.rlsf_model_sizes.specs.PowerOfTwo.{floor_log2}
+use Rattle.rlsf_model_sizes.specs.Sizes.{max_pool_size, pool_size_to_contain_allocation, request_size}
 use Rattle.rlsf_model.specs.Allocate.{choice}
 use Rattle.rlsf_model.specs.FlexAllocate.{Asks, FlexAllocates}
 use Rattle.rlsf_model.specs.FlexRun.{FlexEvent}

@@ -5,8 +5,8 @@ use Rattle.std.proofs.lemmas.Bool.{false≢true}
 use Rattle.std.proofs.lemmas.Option.{none-some, same_Some}
 use Rattle.std.specs.Bool.{then_some}
 use Rattle.rlsf_base.specs.declared.memory.range.Range.{Range}
-use Rattle.rlsf_base.specs.SizeClass.{IsValid}
-use Rattle.rlsf_base.specs.Sizes.{pool_size_to_contain_allocation}
+use Rattle.rlsf_model_sizes.specs.SizeClass.{IsValid}
+use Rattle.rlsf_model_sizes.specs.Sizes.{pool_size_to_contain_allocation}
 use Rattle.rlsf_model.specs.Answers.{MayAnswerAll}
 use Rattle.rlsf_model.specs.FlexAllocate.{Asks, FlexAllocates}
 use Rattle.rlsf_model.specs.FlexReallocate.{FlexReallocates, IsStuck}

@@ -1,8 +1,8 @@
 -- Each step and each run over a source keeps a state well-formed.
 use Rattle.std.proofs.Common.{◌≡◌, ℕ, List, [], ◌∷◌, Option, Some, None, arith, refl, sym, ◌∙◌, subst, inl, inr}
 use Rattle.rlsf_base.specs.declared.memory.range.Range.{Range}
-use Rattle.rlsf_base.specs.PowerOfTwo.{IsPowerOfTwo}
-use Rattle.rlsf_base.specs.SizeClass.{IsValid}
+use Rattle.rlsf_model_sizes.specs.PowerOfTwo.{IsPowerOfTwo}
+use Rattle.rlsf_model_sizes.specs.SizeClass.{IsValid}
 use Rattle.rlsf_model.specs.Allocate.{Allocates}
 use Rattle.rlsf_model.specs.Answers.{MayAnswerAll}
 use Rattle.rlsf_model.specs.FlexAllocate.{Asks, FlexAllocates}

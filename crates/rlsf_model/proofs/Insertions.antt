@@ -2,7 +2,7 @@
 use Rattle.std.proofs.Common.{◌≡◌, ℕ, ◌+◌, ◌-◌, ◌<◌, ◌≤◌, List, Option, arith, sym, ◌∙◌, ap, subst, inl, inr, [], ◌∷◌, refl}
 use Rattle.rlsf_base.specs.declared.memory.range.Range.{Range}
 use Rattle.rlsf_base.specs.Range.{end_of}
-use Rattle.rlsf_base.specs.Sizes.{max_pool_size}
+use Rattle.rlsf_model_sizes.specs.Sizes.{max_pool_size}
 use Rattle.rlsf_base.proofs.SizeClasses.Reach.{IsValidClass-class_of}
 use Rattle.rlsf_model.specs.Insert.{cut, aligned_part, body, with_chunk, with_chunks, IsFresh, Inserts}
 use Rattle.rlsf_model.specs.Lists.{IsIn}

@@ -3,9 +3,9 @@ use Rattle.std.proofs.Common.{◌≡◌, ◌≢◌, ◌⊎◌, ℕ, ◌+◌, ◌
 use Rattle.std.proofs.Common.{true≢false, arith, refl, sym, ◌∙◌, ap, subst, inl, inr}
 use Rattle.std.proofs.lemmas.Bool.{eq-eqb, eqb-true, ne_eqb}
 use Rattle.rlsf_base.specs.declared.memory.range.Range.{Range}
-use Rattle.rlsf_base.specs.PowerOfTwo.{IsPowerOfTwo}
+use Rattle.rlsf_model_sizes.specs.PowerOfTwo.{IsPowerOfTwo}
 use Rattle.rlsf_base.specs.Range.{end_of}
-use Rattle.rlsf_base.specs.Sizes.{request_size}
+use Rattle.rlsf_model_sizes.specs.Sizes.{request_size}
 use Rattle.rlsf_model.specs.Allocate.{placed, given, Places}
 use Rattle.rlsf_model.specs.Laws.{LiveAddressesAreAligned, LiveAddressHasOneBlock, PayloadsAreDisjoint, PayloadLiesInOneChunk, HasSize, AllocationHasSize, ReallocationHasSize}
 use Rattle.rlsf_model.specs.Laws.{ReallocationKeepsBytes, OtherPayloadsStay, UsedWasUsed, HandedOutIsNew, ReallocatedIsLive, LiveStays, ReleasedIsNotLive, FilledHasBytes}

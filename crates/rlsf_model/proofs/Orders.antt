@@ -4,7 +4,7 @@ use Rattle.std.proofs.Common.{Some, None, find, true≢false, arith, refl, sym, 
 use Rattle.std.proofs.lemmas.Bool.{eqb-true}
 use Rattle.rlsf_base.specs.declared.memory.range.Range.{Range}
 use Rattle.rlsf_base.specs.Range.{end_of, range_at}
-use Rattle.rlsf_base.specs.Sizes.{max_pool_size, request_size}
+use Rattle.rlsf_model_sizes.specs.Sizes.{max_pool_size, request_size}
 use Rattle.rlsf_model.specs.Allocate.{choice, placed, given, Allocates}
 use Rattle.rlsf_model.specs.Insert.{cut, aligned_part, body, with_chunk, with_chunks, grown_if, extended, appended, Inserts, Appends}
 use Rattle.rlsf_model.specs.Join.{join, ends_at}

@@ -3,8 +3,8 @@ use Rattle.std.proofs.Common.{◌≡◌, ℕ, ◌+◌, ◌-◌, ◌*◌, ◌%◌
 use Rattle.std.proofs.lemmas.List.Sums.{sum_by-cons}
 use Rattle.std.proofs.lemmas.Nat.{div-mul-add}
 use Rattle.rlsf_base.specs.declared.memory.range.Range.{Range}
-use Rattle.rlsf_base.specs.SizeClass.{Reaches, class_of}
-use Rattle.rlsf_base.specs.Sizes.{IsSize, payloads_length, request_size}
+use Rattle.rlsf_model_sizes.specs.SizeClass.{Reaches, class_of}
+use Rattle.rlsf_model_sizes.specs.Sizes.{IsSize, payloads_length, request_size}
 use Rattle.rlsf_base.proofs.Numbers.Roundings.{round32-same}
 use Rattle.rlsf_base.proofs.SizeMaps.ChunkLengths.{IsBudgetPool, IsBudgetPool-some, IsObjectPool-some, IsPayloadPool, IsPayloadPool-some}
 use Rattle.rlsf_base.proofs.SizeMaps.Laws.{IsSize-request_size}

@@ -7,7 +7,7 @@ use Rattle.std.proofs.lemmas.Nat.{pow-add}
 use Rattle.std.proofs.lemmas.Option.{none-some, same_Some}
 use Rattle.std.proofs.Math.Nat.{div-add-mod'}
 use Rattle.rlsf_base.specs.declared.memory.range.Range.{Range}
-use Rattle.rlsf_base.specs.PowerOfTwo.{floor_log2, IsPowerOfTwo}
+use Rattle.rlsf_model_sizes.specs.PowerOfTwo.{floor_log2, IsPowerOfTwo}
 use Rattle.rlsf_base.proofs.Numbers.PowersOfTwo.{floor_log2-lt, pow-between}
 use Rattle.rlsf_model.specs.FlexState.{KeptPool}
 use Rattle.rlsf_model.specs.Growth.{if_fits, questions_for, range_length}

@@ -1,6 +1,6 @@
 -- Each call that its caller may make has a reply and a state after.
 use Rattle.std.proofs.Common.{refl}
-use Rattle.rlsf_base.specs.Sizes.{max_pool_size}
+use Rattle.rlsf_model_sizes.specs.Sizes.{max_pool_size}
 use Rattle.rlsf_model.specs.Insert.{cut, aligned_part, bytes_taken, with_chunks, appended, appended_bytes}
 use Rattle.rlsf_model.specs.Laws.{EachCallAnswers}
 use Rattle.rlsf_model.specs.Reallocate.{plan}

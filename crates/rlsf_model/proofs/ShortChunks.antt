@@ -7,9 +7,9 @@ use Rattle.std.proofs.Math.Nat.{le_of_mul-le-mul_right, mul-le-mul_left}
 use Rattle.std.specs.Option.{option_and_then}
 use Rattle.rlsf_base.specs.declared.memory.range.Range.{Range}
 use Rattle.rlsf_base.specs.Range.{end_of, range_at}
-use Rattle.rlsf_base.specs.Rounding.{round32}
-use Rattle.rlsf_base.specs.SizeClass.{IsValid, Reaches, class_of, reaching_class}
-use Rattle.rlsf_base.specs.Sizes.{IsSize, chunk_length, map_ceil_and_unmap, payloads_length, pool_size_for_payloads, request_size}
+use Rattle.rlsf_model_sizes.specs.Rounding.{round32}
+use Rattle.rlsf_model_sizes.specs.SizeClass.{IsValid, Reaches, class_of, reaching_class}
+use Rattle.rlsf_model_sizes.specs.Sizes.{IsSize, chunk_length, map_ceil_and_unmap, payloads_length, pool_size_for_payloads, request_size}
 use Rattle.rlsf_base.proofs.Numbers.PowersOfTwo.{IsPowerOfTwo-positive}
 use Rattle.rlsf_base.proofs.Numbers.Roundings.{round32-same}
 use Rattle.rlsf_base.proofs.SizeClasses.Order.{IsFirstReaching-reaching_class, class_start-mono}

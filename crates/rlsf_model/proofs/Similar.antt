@@ -2,7 +2,7 @@
 use mathlib.Core.Path.{ap₂}
 use Rattle.std.proofs.Common.{◌≡◌, ℕ, not, eqb, map, List, [], ◌∷◌, Option, Some, None, refl, sym, ◌∙◌, ap, subst}
 use Rattle.rlsf_base.specs.declared.memory.range.Range.{Range}
-use Rattle.rlsf_base.specs.Sizes.{request_size}
+use Rattle.rlsf_model_sizes.specs.Sizes.{request_size}
 use Rattle.rlsf_model.specs.Allocate.{choice, placed, given, Allocates}
 use Rattle.rlsf_model.specs.Insert.{Inserts, Appends}
 use Rattle.rlsf_model.specs.Join.{join}

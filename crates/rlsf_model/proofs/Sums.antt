@@ -7,8 +7,8 @@ use Rattle.std.proofs.lemmas.List.Sums.{sum_by-cons}
 use Rattle.std.proofs.Math.Nat.{mul-le-mul_right}
 use Rattle.rlsf_base.specs.declared.memory.range.Range.{Range}
 use Rattle.rlsf_base.specs.Range.{end_of, range_at}
-use Rattle.rlsf_base.specs.Sizes.{request_size}
-use Rattle.rlsf_base.specs.SizeClass.{Reaches, class_of}
+use Rattle.rlsf_model_sizes.specs.Sizes.{request_size}
+use Rattle.rlsf_model_sizes.specs.SizeClass.{Reaches, class_of}
 use Rattle.rlsf_base.proofs.SizeClasses.Order.{Reaches-longer}
 use Rattle.rlsf_model.specs.Allocate.{Allocates}
 use Rattle.rlsf_model.specs.Budget.{IsTakenFor, total_len}

@@ -5,8 +5,8 @@ use Rattle.std.proofs.lemmas.Bool.{cases_lt, eq-eqb, eqb-true}
 use Rattle.std.proofs.lemmas.Option.{none-some, same_Some}
 use Rattle.rlsf_base.specs.declared.memory.range.Range.{Range}
 use Rattle.rlsf_base.specs.Range.{end_of, range_at}
-use Rattle.rlsf_base.specs.SizeClass.{class_of, IsValid}
-use Rattle.rlsf_base.specs.Sizes.{max_pool_size, pool_size_to_contain_allocation, request_size}
+use Rattle.rlsf_model_sizes.specs.SizeClass.{class_of, IsValid}
+use Rattle.rlsf_model_sizes.specs.Sizes.{max_pool_size, pool_size_to_contain_allocation, request_size}
 use Rattle.rlsf_base.proofs.SizeClasses.Order.{IsAtMost-class_of, Reaches-IsAtMost}
 use Rattle.rlsf_base.proofs.SizeClasses.Reach.{division-lt}
 use Rattle.rlsf_base.proofs.SizeMaps.PoolSizes.{max_pool_size-some}

@@ -7,10 +7,10 @@ use Rattle.std.proofs.lemmas.List.Sums.{sum_by-cons}
 use Rattle.std.proofs.lemmas.Nat.{div-mul-add, le-div}
 use Rattle.std.proofs.Math.Nat.{mul-le-mul_right}
 use Rattle.rlsf_base.specs.declared.memory.range.Range.{Range}
-use Rattle.rlsf_base.specs.PowerOfTwo.{IsPowerOfTwo}
+use Rattle.rlsf_model_sizes.specs.PowerOfTwo.{IsPowerOfTwo}
 use Rattle.rlsf_base.specs.Range.{end_of}
-use Rattle.rlsf_base.specs.SizeClass.{class_of, Reaches}
-use Rattle.rlsf_base.specs.Sizes.{request_size}
+use Rattle.rlsf_model_sizes.specs.SizeClass.{class_of, Reaches}
+use Rattle.rlsf_model_sizes.specs.Sizes.{request_size}
 use Rattle.rlsf_base.proofs.Numbers.PowersOfTwo.{floor_log2-mono, IsPowerOfTwo-positive}
 use Rattle.rlsf_base.proofs.Numbers.Roundings.{round32-le}
 use Rattle.rlsf_base.proofs.SizeClasses.Order.{Reaches-IsAtMost, IsAtMost-class_of}

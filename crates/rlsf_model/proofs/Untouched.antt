@@ -4,7 +4,7 @@ use Rattle.std.proofs.lemmas.Bool.{cases_lt}
 use Rattle.rlsf_base.specs.declared.memory.range.Range.{Range}
 use Rattle.rlsf_base.proofs.Numbers.Roundings.{round32-le}
 use Rattle.rlsf_base.specs.Range.{AreApart, LiesIn}
-use Rattle.rlsf_base.specs.Sizes.{max_pool_size}
+use Rattle.rlsf_model_sizes.specs.Sizes.{max_pool_size}
 use Rattle.rlsf_model.specs.Insert.{Inserts, IsFresh, IsUntouched, aligned_part, cut, with_chunk, with_chunks}
 use Rattle.rlsf_model.specs.State.{State, empty}
 use Rattle.rlsf_model.specs.WellFormed.{covers, coverage, itself}

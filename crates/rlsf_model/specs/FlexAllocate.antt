@@ -1,6 +1,6 @@
 -- An allocation of the reference model that asks a source for memory.
 use Rattle.std.specs.Prelude.{◌≡◌, ◌⊎◌, ℕ, true, List, [], Option, Some, None}
-use Rattle.rlsf_base.specs.Sizes.{pool_size_to_contain_allocation}
+use Rattle.rlsf_model_sizes.specs.Sizes.{pool_size_to_contain_allocation}
 use Rattle.rlsf_model.specs.Allocate.{Allocates}
 use Rattle.rlsf_model.specs.FlexState.{FlexState, with_machine}
 use Rattle.rlsf_model.specs.Growth.{Extends, Outcome, is_more, refused}

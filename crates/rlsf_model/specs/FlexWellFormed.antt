@@ -2,7 +2,7 @@
 use Rattle.std.specs.Prelude.{◌≡◌, ℕ, ◌+◌, ◌≤◌, ◌<◌, true, List, [], ◌∷◌, Option, Some, None}
 use Rattle.rlsf_base.specs.declared.memory.range.Range.{Range}
 use Rattle.rlsf_base.specs.Range.{end_of, LiesIn}
-use Rattle.rlsf_base.specs.Rounding.{round32}
+use Rattle.rlsf_model_sizes.specs.Rounding.{round32}
 use Rattle.rlsf_model.specs.ChunkRows.{IsRow}
 use Rattle.rlsf_model.specs.FlexState.{FlexState, KeptPool}
 use Rattle.rlsf_model.specs.Growth.{keeps}

@@ -2,10 +2,10 @@
 use Rattle.std.specs.Prelude.{◌≡◌, ◌≢◌, true, ◌↔◌, ◌⊎◌, ℕ, ◌+◌, ◌*◌, ◌%◌, ◌^◌, ◌<◌, ◌≤◌, List, [], ◌∷◌, ◌++◌, filter}
 use Rattle.std.specs.Prelude.{length, Option, Some, None, IfNone, IfSome, ◌==◌, min, ◌-◌, map}
 use Rattle.rlsf_base.specs.declared.memory.range.Range.{Range}
-use Rattle.rlsf_base.specs.PowerOfTwo.{IsPowerOfTwo}
+use Rattle.rlsf_model_sizes.specs.PowerOfTwo.{IsPowerOfTwo}
 use Rattle.rlsf_base.specs.Range.{end_of, range_at, LiesIn}
-use Rattle.rlsf_base.specs.SizeClass.{class_of, IsAtMost, IsValid, Reaches}
-use Rattle.rlsf_base.specs.Sizes.{max_pool_size, pool_size_to_contain_allocation, request_size}
+use Rattle.rlsf_model_sizes.specs.SizeClass.{class_of, IsAtMost, IsValid, Reaches}
+use Rattle.rlsf_model_sizes.specs.Sizes.{max_pool_size, pool_size_to_contain_allocation, request_size}
 use Rattle.rlsf_model.specs.Allocate.{choice, has_class, Allocates}
 use Rattle.rlsf_model.specs.Answers.{MayAnswerAll}
 use Rattle.rlsf_model.specs.Callers.{Payload, payload_in, payload_at, Changes, ChangesAll}

@@ -1,7 +1,7 @@
 -- How much room callers are sure to have. The definitions don't unfold by themselves.
 use Rattle.std.specs.Prelude.{ℕ, List, ◌==◌, filter, length}
 use Rattle.rlsf_base.specs.declared.memory.range.Range.{Range}
-use Rattle.rlsf_base.specs.Sizes.{request_size}
+use Rattle.rlsf_model_sizes.specs.Sizes.{request_size}
 use Rattle.rlsf_model.specs.Budget.{AreAtMost, AreFronts, HasBudget, HasRoomForBudget, used_bytes}
 use Rattle.rlsf_model.specs.State.{State}
 

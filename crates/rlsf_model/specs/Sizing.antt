@@ -1,9 +1,9 @@
 -- What holds of how much memory is enough: laws of runs, known before the first call.
 use Rattle.std.specs.Prelude.{◌≡◌, ◌≢◌, ◌↔◌, ℕ, ◌+◌, ◌-◌, ◌*◌, ◌<◌, ◌≤◌, List, [], ◌∷◌, length, Option, Some, None}
 use Rattle.rlsf_base.specs.declared.memory.range.Range.{Range}
-use Rattle.rlsf_base.specs.PowerOfTwo.{IsPowerOfTwo}
-use Rattle.rlsf_base.specs.SizeClass.{class_of, IsValid, Reaches}
-use Rattle.rlsf_base.specs.Sizes.{IsSize, map_ceil_and_unmap, payloads_length, pool_size_for_budget, pool_size_for_objects, pool_size_for_payloads, request_size}
+use Rattle.rlsf_model_sizes.specs.PowerOfTwo.{IsPowerOfTwo}
+use Rattle.rlsf_model_sizes.specs.SizeClass.{class_of, IsValid, Reaches}
+use Rattle.rlsf_model_sizes.specs.Sizes.{IsSize, map_ceil_and_unmap, payloads_length, pool_size_for_budget, pool_size_for_objects, pool_size_for_payloads, request_size}
 use Rattle.rlsf_model.specs.Allocate.{Allocates}
 use Rattle.rlsf_model.specs.Budget.{total_len, used_bytes, AreFronts, AreAtMost, HasBudget, IsTakenFor, HasRoomForBudget, RunsFrugally, RunsModestly, IsDenied, AreWithin, live_after}
 use Rattle.rlsf_model.specs.FlexRun.{FlexEvent, IsFlexRun, events_in, notes_in}

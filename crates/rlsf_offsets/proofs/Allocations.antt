@@ -6,10 +6,10 @@ use Rattle.std.proofs.Math.Nat.{div-add-mod', mul-mod_right, mul-sub}
 use Rattle.std.proofs.lemmas.Option.{none-some}
 use Rattle.std.specs.Prelude.{IfNone, IfSome}
 use Rattle.rlsf_base.specs.declared.memory.range.Range.{Range}
-use Rattle.rlsf_base.specs.PowerOfTwo.{IsPowerOfTwo, floor_log2}
+use Rattle.rlsf_model_sizes.specs.PowerOfTwo.{IsPowerOfTwo, floor_log2}
 use Rattle.rlsf_base.specs.Layout.{IsLayout}
-use Rattle.rlsf_base.specs.SizeClass.{Reaches, class_of}
-use Rattle.rlsf_base.specs.Sizes.{request_size}
+use Rattle.rlsf_model_sizes.specs.SizeClass.{Reaches, class_of}
+use Rattle.rlsf_model_sizes.specs.Sizes.{request_size}
 use Rattle.rlsf_base.proofs.Numbers.PowersOfTwo.{IsPowerOfTwo-pow, pow-between}
 use Rattle.rlsf_base.proofs.Numbers.Roundings.{next_multiple_of-multiple}
 use Rattle.rlsf_base.proofs.SizeClasses.Reach.{Reaches-class_of, Reaches-from_slack}

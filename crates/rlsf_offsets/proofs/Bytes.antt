@@ -5,7 +5,7 @@ use Rattle.std.proofs.lemmas.Nat.{pow-add}
 use Rattle.std.proofs.lemmas.Option.{none-some}
 use Rattle.std.proofs.Math.Nat.{div-add-mod', div-eq_of_lt-le, mod-lt, mul_assoc, mul-div_left, mul-le-mul_right, mul-mod_right}
 use Rattle.std.specs.Option.{option_map}
-use Rattle.rlsf_base.specs.PowerOfTwo.{IsPowerOfTwo, floor_log2}
+use Rattle.rlsf_model_sizes.specs.PowerOfTwo.{IsPowerOfTwo, floor_log2}
 use Rattle.rlsf_base.proofs.Numbers.PowersOfTwo.{IsPowerOfTwo-pow, IsPowerOfTwo-positive}
 use Rattle.rlsf_model.specs.Callers.{align_at, bytes_at}
 use Rattle.rlsf_model.specs.State.{State}

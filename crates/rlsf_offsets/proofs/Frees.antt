@@ -9,7 +9,7 @@ use Rattle.rlsf_model.specs.Release.{Deallocates}
 use Rattle.rlsf_model.specs.Sized.{live_count}
 use Rattle.rlsf_model.specs.State.{State, Used}
 use Rattle.rlsf_model.specs.Insert.{Inserts, aligned_part, cut, with_chunks}
-use Rattle.rlsf_base.specs.Sizes.{max_pool_size}
+use Rattle.rlsf_model_sizes.specs.Sizes.{max_pool_size}
 use Rattle.rlsf_model.proofs.CallerWords.{align_at-none}
 use Rattle.rlsf_model.proofs.Callers.{payload_at-none}
 use Rattle.rlsf_model.proofs.Live.{deallocation_leaves_others}

@@ -3,7 +3,7 @@ use Rattle.std.proofs.Common.{◌≡◌, ℕ, zero, suc, ◌+◌, ◌-◌, ◌*�
 use Rattle.std.proofs.lemmas.Bool.{eq-eqb}
 use Rattle.rlsf_base.specs.declared.memory.range.Range.{Range}
 use Rattle.rlsf_base.specs.Range.{end_of, range_at}
-use Rattle.rlsf_base.specs.Sizes.{max_pool_size}
+use Rattle.rlsf_model_sizes.specs.Sizes.{max_pool_size}
 use Rattle.rlsf_base.specs.Space.{range_of}
 use Rattle.rlsf_model.specs.Insert.{Appends, IsNext, aligned_part, cut, extended, grown_if}
 use Rattle.rlsf_model.specs.Join.{ends_at}

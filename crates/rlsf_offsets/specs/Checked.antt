@@ -1,6 +1,6 @@
 -- When each error of the checked form is returned. The cases exclude each other, so each result is returned exactly if its condition holds.
 use Rattle.std.specs.Prelude.{◌≡◌, ◌⊎◌, ℕ, ◌*◌, ◌/◌, ◌<◌, ◌≤◌, Option, Some, None, Result, Ok, Err, IsSome}
-use Rattle.rlsf_base.specs.PowerOfTwo.{IsPowerOfTwo}
+use Rattle.rlsf_model_sizes.specs.PowerOfTwo.{IsPowerOfTwo}
 use Rattle.rlsf_offsets.specs.declared.error.OffsetError.{OffsetError}
 use Rattle.rlsf_offsets.specs.declared.error.OffsetError.TheVariants.{BadAlign, NoRoom, TooLong, TooShort, UnknownOffset}
 use Rattle.rlsf_offsets.specs.Offsets.{HasRoomForBytes, IsFullFor, len_at}

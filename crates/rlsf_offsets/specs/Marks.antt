@@ -1,6 +1,6 @@
 -- Which units have a mark, and what is true of every checked space.
 use Rattle.std.specs.Prelude.{◌≡◌, ℕ, ◌≤◌, Bool, false, get_or, is_some, length}
-use Rattle.rlsf_base.specs.PowerOfTwo.{IsPowerOfTwo}
+use Rattle.rlsf_model_sizes.specs.PowerOfTwo.{IsPowerOfTwo}
 use Rattle.rlsf_offsets.specs.declared.marks.Marks.{Marks}
 use Rattle.rlsf_offsets.specs.Units.{Offsets, limit_of, units_at}
 

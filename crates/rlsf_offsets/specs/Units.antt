@@ -4,8 +4,8 @@ use Rattle.std.specs.Option.{option_map}
 use Rattle.rlsf_base.specs.declared.memory.range.Range.{Range}
 use Rattle.rlsf_base.specs.OpenSpace.{IsOwned}
 use Rattle.rlsf_base.specs.Range.{range_at}
-use Rattle.rlsf_base.specs.SizeClass.{Reaches, class_of}
-use Rattle.rlsf_base.specs.Sizes.{pool_size_for_payloads}
+use Rattle.rlsf_model_sizes.specs.SizeClass.{Reaches, class_of}
+use Rattle.rlsf_model_sizes.specs.Sizes.{pool_size_for_payloads}
 use Rattle.rlsf_base.specs.Space.{Space, range_of}
 use Rattle.rlsf_blocks.specs.StandsFor.{contents, StandsFor}
 use Rattle.rlsf_model.specs.Callers.{align_at, bytes_at}

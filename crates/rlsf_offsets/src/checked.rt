@@ -2,7 +2,7 @@
 
 ghost use Rattle.std.specs.Prelude.{◌≡◌, ◌≤◌, ◌<◌, ◌+◌, ◌-◌, ◌*◌, ◌/◌, ◌^◌, ◌↔◌, ◌⊎◌, ℕ, None, max, is_some, true, IfErr, IfOk, IsErrOf, IsOk, OnErr};
 ghost use Rattle.std.specs.Map.Iter.{GivesInOrder};
-ghost use Rattle.rlsf_base.specs.PowerOfTwo.{IsPowerOfTwo};
+ghost use Rattle.rlsf_model_sizes.specs.PowerOfTwo.{IsPowerOfTwo};
 ghost use Rattle.rlsf_offsets.specs.Blocks.{AreStats};
 ghost use Rattle.rlsf_offsets.specs.Checked.{IsAllocation, IsGrowth, IsRangeReallocation, if_range_live, len_or};
 ghost use Rattle.rlsf_offsets.specs.Iteration.{ArePieces};

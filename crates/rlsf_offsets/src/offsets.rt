@@ -1,6 +1,6 @@
 //! The allocator of offsets.
 ghost use Rattle.std.specs.Prelude.{◌≡◌, ◌≤◌, ◌<◌, ◌+◌, ◌-◌, ◌*◌, ◌/◌, ◌^◌, ◌↔◌, ◌⊎◌, ℕ, Some, None, true, false, IfErr, IfOk, IfNone, IfSome, IsErrOf, IsSome, max};
-ghost use Rattle.rlsf_base.specs.PowerOfTwo.{IsPowerOfTwo};
+ghost use Rattle.rlsf_model_sizes.specs.PowerOfTwo.{IsPowerOfTwo};
 ghost use Rattle.rlsf_offsets.specs.Offsets as offsets;
 ghost use Rattle.rlsf_offsets.specs.Offsets.{HasRoomForBytes, IsRangeAllocated, IsRangeDeallocated, IsDivided, IsFullFor, IsSpaceGrown, IsRangeReallocated, KeepsRanges, SucceedsFor, len_at};
 ghost use Rattle.std.specs.Map.Iter.{GivesInOrder};
@@ -31,7 +31,7 @@ pub struct OffsetTlsf<const UNIT: usize> {
 
 impl<const UNIT: usize> Model for OffsetTlsf<UNIT> {
     ghost use Rattle.std.specs.Prelude.{◌<◌, ◌*◌, ◌^◌};
-    ghost use Rattle.rlsf_base.specs.PowerOfTwo.{IsPowerOfTwo};
+    ghost use Rattle.rlsf_model_sizes.specs.PowerOfTwo.{IsPowerOfTwo};
     ghost use Rattle.rlsf_offsets.specs.Units.{Offsets};
 
     ghost Value = { Offsets };

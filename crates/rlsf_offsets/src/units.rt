@@ -7,7 +7,7 @@
 ghost use Rattle.std.specs.Prelude.{◌≡◌, ◌≤◌, ◌<◌, ◌+◌, ◌-◌, ◌*◌, ◌/◌, ◌^◌, ◌↔◌, ◌⊎◌, ℕ, length, Some, None, true, false, IfErr, IfOk, IfNone, IfSome, IsErrOf, IsSome};
 ghost use Rattle.std.specs.Map.Iter.{GivesInOrder};
 ghost use Rattle.rlsf_base.specs.MemoryCalls as memories;
-ghost use Rattle.rlsf_base.specs.PowerOfTwo.{IsPowerOfTwo};
+ghost use Rattle.rlsf_model_sizes.specs.PowerOfTwo.{IsPowerOfTwo};
 ghost use Rattle.rlsf_offsets.specs.Blocks.{AreAllBlocks, AreSpaceTotals, AreWithinSpace};
 ghost use Rattle.rlsf_offsets.specs.Units.{HasRoomInPlace, IsEmpty, IsFreeRun, HasNoRoomFor, IsUnitAllocator, IsLonger, IsReleased, IsReserved, IsRangeResized, IsSpace, IsSpaceUnchanged};
 ghost use Rattle.rlsf_offsets.specs.Units.{KeepsSpaceSized, KeepsSizedFor, KeepsSizedThere, SizesSpace, SucceedsWithin, limit_of, place, units_at, whole_shadow};

@@ -7,7 +7,7 @@ use Rattle.std.proofs.lemmas.List.Sums.{sum_by-cons}
 use Rattle.std.proofs.lemmas.Option.{none-some, same_Some}
 use Rattle.std.specs.Option.{option_map}
 use Rattle.std.specs.Prelude.{slice_get, slice_set, sum_by}
-use Rattle.rlsf_base.specs.Sizes.{pool_size_for_objects}
+use Rattle.rlsf_model_sizes.specs.Sizes.{pool_size_for_objects}
 use Rattle.rlsf_heap.specs.Heap.{PayloadView}
 use Rattle.rlsf_partitions.specs.Partitions.{ArePossible, HasAt, IsFullAt, IsGivenBackAt, IsKept, IsOf, IsPlaced, ArePossibleLengths, IsTakenAt, PartitionView, Quota, fresh}
 use Rattle.rlsf_partitions.specs.Partitions.{partition_for, partitions_view, quota_of, vacant, with_one_less, with_one_more, with_one_more_for}

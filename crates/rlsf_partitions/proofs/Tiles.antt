@@ -2,10 +2,10 @@
 use Rattle.std.proofs.Common.{◌≡◌, ℕ, ◌+◌, ◌*◌, ◌%◌, ◌<◌, ◌≤◌, ◌/◌, length, Option, Some, None, IfNone, IfSome, IsNone, arith, refl, sym, ◌∙◌, ap, subst}
 use Rattle.std.proofs.lemmas.Bool.{false≢true, le-leb}
 use Rattle.std.proofs.Math.Nat.{mul-le-mul_right}
-use Rattle.rlsf_base.specs.PowerOfTwo.{IsPowerOfTwo}
+use Rattle.rlsf_model_sizes.specs.PowerOfTwo.{IsPowerOfTwo}
 use Rattle.rlsf_base.specs.Range.{range_at}
-use Rattle.rlsf_base.specs.SizeClass.{Reaches, class_of}
-use Rattle.rlsf_base.specs.Sizes.{pool_size_for_objects, request_size}
+use Rattle.rlsf_model_sizes.specs.SizeClass.{Reaches, class_of}
+use Rattle.rlsf_model_sizes.specs.Sizes.{pool_size_for_objects, request_size}
 use Rattle.rlsf_base.specs.Space.{range_of}
 use Rattle.rlsf_base.specs.declared.memory.range.Range.{Range}
 use Rattle.rlsf_model.specs.Allocate.{Allocates}

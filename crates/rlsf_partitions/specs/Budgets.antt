@@ -1,7 +1,7 @@
 -- The sums of a list of payloads.
 use Rattle.std.specs.Prelude.{◌≡◌, ℕ, ◌+◌, ◌*◌, max}
 use Rattle.rlsf_base.specs.declared.memory.layout.Layout.{Layout}
-use Rattle.rlsf_base.specs.Sizes.{request_size}
+use Rattle.rlsf_model_sizes.specs.Sizes.{request_size}
 use Rattle.rlsf_partitions.specs.declared.budget.Budget.{Budget}
 
 -- a budget has so many more payloads of up to a layout than another

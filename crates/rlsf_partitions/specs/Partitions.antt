@@ -3,7 +3,7 @@ use Rattle.std.specs.Prelude.{◌≡◌, ⊤, ℕ, zero, suc, ◌+◌, ◌-◌, 
 use Rattle.std.specs.Prelude.{if◌then◌else◌, nat_le, slice_get, slice_set, sum_by}
 use Rattle.std.specs.Option.{option_map}
 use Rattle.rlsf_base.specs.Layout.{IsLayout}
-use Rattle.rlsf_base.specs.Sizes.{pool_size_for_objects}
+use Rattle.rlsf_model_sizes.specs.Sizes.{pool_size_for_objects}
 use Rattle.rlsf_heap.specs.Heap.{Identity, PayloadView}
 
 -- a pool: which heap its payloads are of, their greatest size, how many have room, how many are live, and its word accesses so far

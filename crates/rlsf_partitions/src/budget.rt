@@ -1,7 +1,7 @@
 //! The sums of a list of payloads, by which one pool for all of them gets its length.
 
 ghost use Rattle.std.specs.Prelude.{◌≡◌, ◌+◌, ◌*◌, ◌^◌, ◌≤◌, ◌⊎◌, IfSome, IsNone, max};
-ghost use Rattle.rlsf_base.specs.Sizes.{request_size};
+ghost use Rattle.rlsf_model_sizes.specs.Sizes.{request_size};
 ghost use Rattle.rlsf_partitions.specs.Budgets.{IsSumWith};
 
 use rlsf_base::classes;

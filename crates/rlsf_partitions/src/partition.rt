@@ -1,7 +1,7 @@
 //! A pool of payloads of one size, in a memory of its own.
 
 ghost use Rattle.std.specs.Prelude.{◌≡◌, ◌+◌, ◌≤◌, ◌↔◌, IfNone, IfOk, IfSome, IsErrOf, IsNone, IsOk};
-ghost use Rattle.rlsf_base.specs.Sizes.{pool_size_for_objects};
+ghost use Rattle.rlsf_model_sizes.specs.Sizes.{pool_size_for_objects};
 ghost use Rattle.rlsf_partitions.specs.Partitions.{ArePossibleLengths, IsTakenFrom};
 
 use rlsf_base::classes;

@@ -1,7 +1,7 @@
 //! Pools of payloads, one for each size of a list.
 
 ghost use Rattle.std.specs.Prelude.{◌≡◌, ◌+◌, ◌<◌, ◌≤◌, ◌↔◌, [], ◌∷◌, ◌++◌, Some, IfNone, IfOk, IfSome, IsErrOf, IsNone, IsOk, OnOk, ℕ, length, map, nat_le, slice_get};
-ghost use Rattle.rlsf_base.specs.Sizes.{pool_size_for_objects};
+ghost use Rattle.rlsf_model_sizes.specs.Sizes.{pool_size_for_objects};
 ghost use Rattle.rlsf_partitions.specs.Partitions.{ArePossible, HasAt, IsFullAt, IsGivenBackAt, IsKept, IsOf, IsPlaced, ArePossibleLengths, IsTakenAt};
 ghost use Rattle.rlsf_partitions.specs.Partitions.{fresh, partition_for, partitions_view, quota_of, vacant, with_one_less, with_one_more};
 

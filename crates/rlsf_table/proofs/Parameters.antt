@@ -1,7 +1,7 @@
 -- The class table keeps the bits of a first-level row in two words of 64 bits. This is so whatever types an allocator's parameters
 -- name for its bitmaps.
 use Rattle.std.proofs.Common.{ℕ, ◌≤◌, arith}
-use Rattle.rlsf_base.specs.SizeClass.{IsValid}
+use Rattle.rlsf_model_sizes.specs.SizeClass.{IsValid}
 use Rattle.rlsf_table.proofs.Tables.RowLengths.{row_length-bounds}
 
 -- no bitmap has more than 128 positions, and no row more than 128 classes

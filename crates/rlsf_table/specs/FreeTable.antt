@@ -1,7 +1,7 @@
 -- The free blocks by classes, as their words and the class table have them.
 use Rattle.std.specs.Prelude.{◌≡◌, ℕ, ◌+◌, ◌^◌, ◌<◌, ◌≤◌, List, ◌∷◌, ◌++◌, length, Option, None, Some, MatchOption}
 use Rattle.rlsf_base.specs.declared.memory.range.Range.{Range}
-use Rattle.rlsf_base.specs.SizeClass.{IsAtMost, class_of, class_at}
+use Rattle.rlsf_model_sizes.specs.SizeClass.{IsAtMost, class_of, class_at}
 use Rattle.rlsf_base.specs.Space.{Space, word_at}
 use Rattle.rlsf_model.specs.Allocate.{choice}
 use Rattle.rlsf_model.specs.Lists.{IsIn}

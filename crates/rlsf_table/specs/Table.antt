@@ -3,7 +3,7 @@
 use Rattle.std.specs.Prelude.{◌≡◌, ◌↔◌, ℕ, ◌+◌, ◌<◌, Bool, List, [], ◌∷◌, Option, None, Some, length, filter, slice_index, slice_index_or, ◌==◌}
 use Rattle.std.specs.List.{list_any}
 use Rattle.rlsf_base.specs.declared.memory.range.Range.{Range}
-use Rattle.rlsf_base.specs.SizeClass.{class_of, class_at}
+use Rattle.rlsf_model_sizes.specs.SizeClass.{class_of, class_at}
 use Rattle.rlsf_base.specs.Space.{Space}
 use Rattle.rlsf_int.specs.Bits.{bit}
 use Rattle.rlsf_model.specs.Allocate.{has_class}

@@ -2,8 +2,8 @@
 
 ghost use Rattle.std.specs.Prelude.{List};
 ghost use Rattle.rlsf_base.specs.declared.memory.range.Range.{Range};
-ghost use Rattle.rlsf_base.specs.SizeClass.{IsValid};
-ghost use Rattle.rlsf_base.specs.Sizes.{IsSize};
+ghost use Rattle.rlsf_model_sizes.specs.SizeClass.{IsValid};
+ghost use Rattle.rlsf_model_sizes.specs.Sizes.{IsSize};
 ghost use Rattle.rlsf_table.specs.Counts.{Counts};
 ghost use Rattle.rlsf_table.specs.FreeTable.{IsFirstFit, IsFreeTable};
 

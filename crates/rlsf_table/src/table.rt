@@ -3,7 +3,7 @@
 ghost use Rattle.std.specs.Prelude.{◌≡◌, ℕ, ◌<◌, ◌≤◌, false, List, [], ◌∷◌, ◌==◌, if◌then◌else◌, slice_index};
 ghost use Rattle.rlsf_base.specs.declared.memory.range.Range.{Range};
 ghost use Rattle.rlsf_base.specs.SearchStart.{CanBegin};
-ghost use Rattle.rlsf_base.specs.SizeClass.{IsValid, class_of, class_at};
+ghost use Rattle.rlsf_model_sizes.specs.SizeClass.{IsValid, class_of, class_at};
 ghost use Rattle.rlsf_base.specs.Space.{Space};
 ghost use Rattle.rlsf_int.specs.Bits.{bit};
 ghost use Rattle.rlsf_model.specs.Lists.{IsIn};

@@ -1,7 +1,7 @@
 //! Tests of size classes.
 
-ghost use Rattle.rlsf_base.specs.SizeClass.{IsValid};
-ghost use Rattle.rlsf_base.specs.Sizes as sizes;
+ghost use Rattle.rlsf_model_sizes.specs.SizeClass.{IsValid};
+ghost use Rattle.rlsf_model_sizes.specs.Sizes as sizes;
 
 use crate::answers::{all, passes};
 use crate::pools::{Shape, are_long_enough};

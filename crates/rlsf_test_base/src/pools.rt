@@ -1,6 +1,6 @@
 //! Pools of the lengths that are computed for one allocation.
 
-ghost use Rattle.rlsf_base.specs.SizeClass.{IsValid};
+ghost use Rattle.rlsf_model_sizes.specs.SizeClass.{IsValid};
 
 use rlsf_base::classes::pool_size_to_contain_allocation;
 use rlsf_base::memory::{Layout, Memory, Range};

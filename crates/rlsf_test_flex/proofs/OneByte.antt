@@ -6,7 +6,7 @@ use Rattle.std.proofs.lemmas.Bool.{cases_lt}
 use Rattle.std.proofs.lemmas.List.{length-map}
 use Rattle.rlsf_base.specs.declared.memory.range.Range.{Range}
 use Rattle.rlsf_base.specs.Space.{range_of}
-use Rattle.rlsf_base.specs.Sizes.{pool_size_to_contain_allocation}
+use Rattle.rlsf_model_sizes.specs.Sizes.{pool_size_to_contain_allocation}
 use Rattle.rlsf_flex.specs.StandsFor.{FlexContents, FlexSteps}
 use Rattle.rlsf_model.specs.Allocate.{choice, Places}
 use Rattle.rlsf_model.specs.Answers.{MayAnswerAll}

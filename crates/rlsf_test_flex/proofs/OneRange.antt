@@ -6,8 +6,8 @@ use Rattle.std.proofs.lemmas.List.{length-append}
 use Rattle.std.proofs.lemmas.List.Sums.{sum_by-append, sum_by-cons}
 use Rattle.rlsf_base.specs.declared.memory.range.Range.{Range}
 use Rattle.rlsf_base.specs.Range.{end_of, range_at}
-use Rattle.rlsf_base.specs.Rounding.{round32}
-use Rattle.rlsf_base.specs.SizeClass.{class_of, Reaches}
+use Rattle.rlsf_model_sizes.specs.Rounding.{round32}
+use Rattle.rlsf_model_sizes.specs.SizeClass.{class_of, Reaches}
 use Rattle.rlsf_base.proofs.Numbers.Roundings.{round32-same}
 use Rattle.rlsf_base.proofs.SizeClasses.Reach.{Reaches-from_slack}
 use Rattle.rlsf_model.specs.Allocate.{choice, placed, Places}

@@ -1,7 +1,7 @@
 -- A source that provides its space from a cursor on.
 use Rattle.std.specs.Prelude.{◌≡◌, ℕ, ◌^◌, ◌≤◌, ◌<◌, List}
 use Rattle.rlsf_base.specs.declared.memory.range.Range.{Range}
-use Rattle.rlsf_base.specs.PowerOfTwo.{IsPowerOfTwo}
+use Rattle.rlsf_model_sizes.specs.PowerOfTwo.{IsPowerOfTwo}
 use Rattle.rlsf_base.specs.Range.{end_of}
 use Rattle.rlsf_model.specs.Lists.{IsIn}
 use Rattle.rlsf_model.specs.Note.{Note}

@@ -9,7 +9,7 @@ mod script;
 mod shapes;
 mod system;
 
-ghost use Rattle.rlsf_base.specs.SizeClass.{IsValid};
+ghost use Rattle.rlsf_model_sizes.specs.SizeClass.{IsValid};
 
 use self::asked::{Asked, Source};
 use self::lists::{LIST_36, LIST_53, LIST_108, LIST_134, LIST_165, LIST_1241};

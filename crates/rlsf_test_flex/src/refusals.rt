@@ -3,7 +3,7 @@
 
 mod tables;
 
-ghost use Rattle.rlsf_base.specs.PowerOfTwo.{IsPowerOfTwo};
+ghost use Rattle.rlsf_model_sizes.specs.PowerOfTwo.{IsPowerOfTwo};
 
 use self::tables::{CLAIMS_CONTIGUITY, GROWS_AND_TAKES_BACK, TAKES_BACK};
 use crate::heaps::all;

@@ -1,7 +1,7 @@
 //! The memory and the sources of these tests.
 
 ghost use Rattle.std.specs.Prelude.{◌≡◌, [], length, IfSome};
-ghost use Rattle.rlsf_base.specs.PowerOfTwo.{IsPowerOfTwo};
+ghost use Rattle.rlsf_model_sizes.specs.PowerOfTwo.{IsPowerOfTwo};
 ghost use Rattle.rlsf_base.specs.Range.{range_at};
 ghost use Rattle.rlsf_trace_flex_runs.specs.Listed.{ListedMayOwe};
 

@@ -3,7 +3,7 @@ use Rattle.std.proofs.Common.{◌≡◌, ℕ, ◌+◌, ◌*◌, ◌/◌, ◌%◌
 use mathlib.Core.Path.{ap₂}
 use Rattle.rlsf_base.specs.declared.memory.range.Range.{Range}
 use Rattle.rlsf_base.specs.Range.{end_of, LiesIn, range_at}
-use Rattle.rlsf_base.specs.Sizes.{max_pool_size}
+use Rattle.rlsf_model_sizes.specs.Sizes.{max_pool_size}
 use Rattle.rlsf_base.proofs.Numbers.Roundings.{round32-le}
 use Rattle.rlsf_model.specs.ChunkRows.{IsRow}
 use Rattle.rlsf_model.specs.Insert.{aligned_part, appended, cut, extended, with_chunks, Appends, Inserts, IsNext}

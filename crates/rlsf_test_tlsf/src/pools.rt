@@ -2,7 +2,7 @@
 
 ghost use Rattle.std.specs.Prelude.{◌≡◌, ◌+◌, ◌≤◌, replicate};
 ghost use Rattle.rlsf_base.specs.Range.{LiesIn, range_at};
-ghost use Rattle.rlsf_base.specs.SizeClass.{IsValid};
+ghost use Rattle.rlsf_model_sizes.specs.SizeClass.{IsValid};
 ghost use Rattle.rlsf_test_tlsf.specs.Rows.{TakesRow};
 
 use rlsf::int::BitPattern;

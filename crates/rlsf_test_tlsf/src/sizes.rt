@@ -6,7 +6,7 @@
 //! blocks of up to S bytes, let m be the least size whose class reaches S. If n are live before each call, they need
 //! `(m + 32) + n * (S + m - 32)`.
 
-ghost use Rattle.rlsf_base.specs.SizeClass.{IsValid};
+ghost use Rattle.rlsf_model_sizes.specs.SizeClass.{IsValid};
 
 use super::pools::{all, layout_of};
 use super::words::next;

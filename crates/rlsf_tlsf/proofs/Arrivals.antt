@@ -1,6 +1,6 @@
 -- A call arrives at the state that its step leads to: the bytes of payloads are read from the memory.
 use Rattle.std.proofs.Common.{◌≡◌, ℕ, ◌≤◌, eqb, cond, length, map, List, [], ◌∷◌, Some, IsSome, refl, sym, ◌∙◌, ap, subst, inl, inr}
-use Rattle.rlsf_base.specs.SizeClass.{IsValid}
+use Rattle.rlsf_model_sizes.specs.SizeClass.{IsValid}
 use Rattle.rlsf_base.specs.Space.{Space, range_of}
 use Rattle.rlsf_model.specs.Lists.{IsIn}
 use Rattle.rlsf_model.specs.Callers.{align_at, bytes_at}

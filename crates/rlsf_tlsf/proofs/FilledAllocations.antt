@@ -1,7 +1,7 @@
 -- A payload that was allocated and then filled is one that was allocated with these bytes.
 use Rattle.std.proofs.Common.{ℕ, List, Some, length, inl, refl, sym, ◌∙◌, ap, subst}
 use Rattle.rlsf_base.specs.declared.memory.range.Range.{Range}
-use Rattle.rlsf_base.specs.PowerOfTwo.{IsPowerOfTwo}
+use Rattle.rlsf_model_sizes.specs.PowerOfTwo.{IsPowerOfTwo}
 use Rattle.rlsf_base.specs.Space.{SamePlace}
 use Rattle.rlsf_model.specs.Allocate.{Allocates, placed, Places}
 use Rattle.rlsf_model.specs.Run.{Fills, fill}

@@ -2,7 +2,7 @@
 use Rattle.std.proofs.Common.{◌≡◌, ℕ, zero, suc, eqb, not, cond, map, find, List, [], ◌∷◌, Option, Some, None, true≢false, refl, sym, ◌∙◌, ap, subst, inr}
 use Rattle.std.proofs.lemmas.Bool.{eq-eqb, eqb-true}
 use Rattle.rlsf_base.specs.declared.memory.range.Range.{Range}
-use Rattle.rlsf_base.specs.Sizes.{max_pool_size}
+use Rattle.rlsf_model_sizes.specs.Sizes.{max_pool_size}
 use Rattle.rlsf_model.specs.Allocate.{Places}
 use Rattle.rlsf_model.specs.Insert.{Appends, Inserts, aligned_part, appended, cut, extended, grown_if, with_chunk, with_chunks}
 use Rattle.rlsf_model.specs.Join.{ends_at}

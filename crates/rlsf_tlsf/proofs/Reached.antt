@@ -2,7 +2,7 @@
 use Rattle.std.proofs.Common.{◌≡◌, ℕ, ◌+◌, ◌-◌, ◌≤◌, arith, sym, ◌∙◌, ap, subst}
 use Rattle.rlsf_base.proofs.Lending.Present.{out-same, own-same}
 use Rattle.rlsf_base.specs.OpenSpace.{SameOwn, StaysHere}
-use Rattle.rlsf_base.specs.SizeClass.{IsValid}
+use Rattle.rlsf_model_sizes.specs.SizeClass.{IsValid}
 use Rattle.rlsf_base.specs.Space.{Space}
 use Rattle.rlsf_model.specs.State.{State}
 use Rattle.rlsf_table.specs.Counts.{Costs, Counts}

@@ -1,6 +1,6 @@
 -- The allocator as contracts see it, and the steps that its calls make.
 use Rattle.std.specs.Prelude.{◌≡◌, ℕ, []}
-use Rattle.rlsf_base.specs.SizeClass.{IsValid}
+use Rattle.rlsf_model_sizes.specs.SizeClass.{IsValid}
 use Rattle.rlsf_base.specs.Space.{Space}
 use Rattle.rlsf_model.specs.State.{State}
 use Rattle.rlsf_table.specs.Table.{Table}

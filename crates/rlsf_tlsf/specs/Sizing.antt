@@ -1,7 +1,7 @@
 -- What a pool sizes the allocator for.
 use Rattle.std.specs.Prelude.{◌≡◌, ◌≤◌, ◌%◌, ℕ, Some}
 use Rattle.rlsf_base.specs.declared.memory.range.Range.{Range}
-use Rattle.rlsf_base.specs.Sizes.{pool_size_for_budget, pool_size_for_payloads}
+use Rattle.rlsf_model_sizes.specs.Sizes.{pool_size_for_budget, pool_size_for_payloads}
 use Rattle.rlsf_model.specs.Sized.{IsSizedFor, IsSizedForBudget, live_count}
 use Rattle.rlsf_model.specs.State.{State}
 

@@ -2,7 +2,7 @@
 
 ghost use Rattle.std.specs.Prelude.{◌≡◌, ◌<◌, ℕ};
 ghost use Rattle.std.specs.List.{list_any};
-ghost use Rattle.rlsf_base.specs.SizeClass.{class_at};
+ghost use Rattle.rlsf_model_sizes.specs.SizeClass.{class_at};
 ghost use Rattle.rlsf_int.specs.Bits.{bit};
 ghost use Rattle.rlsf_model.specs.Allocate.{has_class};
 ghost use Rattle.rlsf_table.specs.Table.{is_in_row};

@@ -4,7 +4,7 @@ use Rattle.std.proofs.Common.{MatchOption, arith, sym, ap, ◌∙◌}
 use Rattle.std.specs.Prelude.{if◌then◌else◌}
 use Rattle.std.proofs.lemmas.Bool.{lt-ltb}
 use Rattle.rlsf_base.specs.declared.memory.range.Range.{Range}
-use Rattle.rlsf_base.specs.PowerOfTwo.{IsPowerOfTwo}
+use Rattle.rlsf_model_sizes.specs.PowerOfTwo.{IsPowerOfTwo}
 use Rattle.rlsf_model.specs.Note.{LeadsBy, Note, alloc, grow}
 use Rattle.rlsf_trace_flex_runs.specs.Listed.{HandsOut, Listed, Remembers, question_of, remembered}
 use Rattle.rlsf_trace_flex_runs.proofs.HandedOut.{behind_range}

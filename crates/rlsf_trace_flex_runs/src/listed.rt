@@ -1,7 +1,7 @@
 //! A source that answers from a list, and remembers what it was asked.
 
 ghost use Rattle.std.specs.Prelude.{◌≡◌, ◌≤◌, ◌-◌, ◌%◌, [], IfOk, MatchOption};
-ghost use Rattle.rlsf_base.specs.PowerOfTwo.{IsPowerOfTwo};
+ghost use Rattle.rlsf_model_sizes.specs.PowerOfTwo.{IsPowerOfTwo};
 ghost use Rattle.rlsf_base.specs.Range.{end_of, range_at};
 ghost use Rattle.rlsf_trace_flex_runs.specs.Listed.{HandsOut, ListedMayOwe, Remembers, remembered, terms_in};
 
@@ -70,7 +70,7 @@ pub struct ListedSource {
 impl Model for ListedSource {
     ghost use Rattle.std.specs.Prelude.{◌≤◌};
     ghost use Rattle.std.specs.Vec.{vec_capacity};
-    ghost use Rattle.rlsf_base.specs.PowerOfTwo.{IsPowerOfTwo};
+    ghost use Rattle.rlsf_model_sizes.specs.PowerOfTwo.{IsPowerOfTwo};
     ghost use Rattle.rlsf_trace_flex_runs.specs.Listed.{Listed, terms_in};
 
     ghost Value = { Listed };

@@ -8,7 +8,7 @@ use Rattle.std.specs.HashMap.{get}
 use Rattle.std.specs.Option.{option_map}
 use Rattle.rlsf_base.specs.declared.memory.range.Range.{Range}
 use Rattle.rlsf_base.specs.Range.{end_of, LiesIn}
-use Rattle.rlsf_base.specs.Rounding.{round32}
+use Rattle.rlsf_model_sizes.specs.Rounding.{round32}
 use Rattle.rlsf_base.proofs.Numbers.Roundings.{round32-le}
 use Rattle.rlsf_base.specs.Space.{Space, range_of, SamePlace}
 use Rattle.rlsf_model.specs.Insert.{Appends, Inserts, IsClear, IsFresh, IsNext, IsVacant}

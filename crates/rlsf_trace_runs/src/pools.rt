@@ -5,7 +5,7 @@ ghost use Rattle.std.specs.List.Sorted.{IsNonDecreasingBy, IsPartitionPoint};
 ghost use Rattle.std.specs.Vec.{vec_capacity, vec_len};
 ghost use Rattle.rlsf_base.specs.declared.memory.range.Range.{Range};
 ghost use Rattle.rlsf_base.specs.Range.{end_of};
-ghost use Rattle.rlsf_base.specs.Rounding.{round32};
+ghost use Rattle.rlsf_model_sizes.specs.Rounding.{round32};
 ghost use Rattle.rlsf_model.specs.Lists.{IsIn};
 ghost use Rattle.rlsf_model.specs.WellFormed.{coverage, itself};
 ghost use Rattle.rlsf_trace_runs.specs.Steps.Pools.{ArePoolsApart, AreInRuns, BeginsRun, EndsAt, AreInAddressOrder, IsLastBegun};

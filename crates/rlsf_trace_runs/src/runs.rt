@@ -2,7 +2,7 @@
 
 ghost use Rattle.std.specs.Prelude.{◌≡◌, ℕ, ◌+◌, ◌<◌, ◌≤◌, ◌^◌, ◌++◌, List, length, IsTrue, ◌↔◌, OnOk, OnErr};
 ghost use Rattle.rlsf_base.specs.Range.{end_of, LiesIn};
-ghost use Rattle.rlsf_base.specs.Rounding.{round32};
+ghost use Rattle.rlsf_model_sizes.specs.Rounding.{round32};
 ghost use Rattle.rlsf_base.specs.Space.{range_of, SamePlace};
 ghost use Rattle.rlsf_model.specs.Insert.{IsVacant};
 ghost use Rattle.rlsf_model.specs.Lists.{IsIn};

@@ -2,7 +2,7 @@
 use Rattle.std.specs.Prelude.{ℕ, ◌+◌, ◌-◌, ◌^◌, List, [], ◌∷◌, map, drop, codes, Bool, ◌&&◌, Result, Ok, Err, ◌==◌, nat_lt, nat_le, if◌then◌else◌}
 use Rattle.std.specs.List.{enumerate_from}
 use Rattle.std.specs.Str.{bytes_eq}
-use Rattle.rlsf_base.specs.PowerOfTwo.{floor_log2}
+use Rattle.rlsf_model_sizes.specs.PowerOfTwo.{floor_log2}
 use Rattle.rlsf_trace_text.specs.declared.configuration.Configuration.{Configuration}
 use Rattle.rlsf_trace_text.specs.declared.fault.Fault.{Fault}
 use Rattle.rlsf_trace_text.specs.declared.fault.Fault.TheVariants.{Config, UnknownOp, ZeroStart, TooLong, BadLayout}

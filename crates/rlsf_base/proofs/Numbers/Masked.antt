@@ -4,7 +4,7 @@ use Rattle.std.specs.Int.{next_multiple_of}
 use Rattle.std.proofs.Math.Nat.{div-add-mod', div-mul-le_self, lt-div-mul-add, lt_of_mul-lt-mul_right, mul-le-mul_right}
 use Rattle.std.proofs.lemmas.Nat.{pow_pos}
 use Rattle.std.proofs.lemmas.Nat.Bits.{and_high_mask}
-use Rattle.rlsf_base.specs.PowerOfTwo.{floor_log2, IsPowerOfTwo}
+use Rattle.rlsf_model_sizes.specs.PowerOfTwo.{floor_log2, IsPowerOfTwo}
 use Rattle.rlsf_base.proofs.Layouts.{pow-quotient}
 use Rattle.rlsf_base.proofs.Numbers.PowersOfTwo.{pow-between}
 use Rattle.rlsf_base.proofs.Numbers.Roundings.{next_multiple_of-le, next_multiple_of-multiple, next_multiple_of-unique}

@@ -8,7 +8,7 @@ use Rattle.std.proofs.Math.Pow.{pow_mono}
 use Rattle.std.specs.Int.{is_power_of_two}
 use Rattle.std.specs.Int.Count.{ones-ones}
 use Rattle.std.specs.Int.RustNames.{count_ones}
-use Rattle.rlsf_base.specs.PowerOfTwo.{halvings, floor_log2, IsPowerOfTwo}
+use Rattle.rlsf_model_sizes.specs.PowerOfTwo.{halvings, floor_log2, IsPowerOfTwo}
 
 -- enough halvings leave the power of two that n has
 halvings_bounds : (most n : ℕ) → 0 < n → n ≤ most → (2 ^ halvings most n ≤ n) × (n < 2 ^ suc (halvings most n))

@@ -3,7 +3,7 @@ use Rattle.std.proofs.Common.{◌≡◌, ℕ, ◌+◌, ◌-◌, ◌*◌, ◌/◌
 use Rattle.std.proofs.lemmas.Bool.{cases_eq, cases_lt}
 use Rattle.std.proofs.Math.Nat.{div-add-mod', mod-eq_of_lt, mod_self, mod-lt, mul-le-mul_right, mul-mod_left, sub-zero}
 use Rattle.std.specs.Int.{next_multiple_of}
-use Rattle.rlsf_base.specs.Rounding.{round32}
+use Rattle.rlsf_model_sizes.specs.Rounding.{round32}
 
 -- rounding up takes nothing away
 pub next_multiple_of-le : (x y : ℕ) → x ≤ next_multiple_of x y

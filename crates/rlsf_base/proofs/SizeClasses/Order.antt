@@ -6,7 +6,7 @@ use Rattle.std.proofs.lemmas.Bool.Decides.{leb_tells}
 use Rattle.std.proofs.lemmas.Nat.{pow_pos}
 use Rattle.std.proofs.Math.Nat.{mul-le-mul_left, mul-le-mul_right, pow-suc}
 use Rattle.std.proofs.Math.Pow.{pow_mono}
-use Rattle.rlsf_base.specs.SizeClass.{SizeClass, class_of, IsAtMost, class_start, Reaches, IsFirstReaching, next_class, reaching_class}
+use Rattle.rlsf_model_sizes.specs.SizeClass.{SizeClass, class_of, IsAtMost, class_start, Reaches, IsFirstReaching, next_class, reaching_class}
 use Rattle.rlsf_base.proofs.SizeClasses.Reach.{division-lt, class_start-le, class_start-lt}
 
 -- c comes before d

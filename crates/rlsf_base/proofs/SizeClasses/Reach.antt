@@ -4,8 +4,8 @@ use Rattle.std.proofs.lemmas.Bool.{cases_lt}
 use Rattle.std.proofs.lemmas.Nat.{div_below, pow_pos}
 use Rattle.std.proofs.Math.Nat.{div-add-mod', le_of_mul-le-mul_right, mod-lt, mul-le-mul_right, pow-suc}
 use Rattle.std.proofs.Math.Pow.{pow_mono}
-use Rattle.rlsf_base.specs.PowerOfTwo.{floor_log2}
-use Rattle.rlsf_base.specs.SizeClass.{class_of, IsValidClass, class_start, Reaches}
+use Rattle.rlsf_model_sizes.specs.PowerOfTwo.{floor_log2}
+use Rattle.rlsf_model_sizes.specs.SizeClass.{class_of, IsValidClass, class_start, Reaches}
 use Rattle.rlsf_base.proofs.Numbers.PowersOfTwo.{floor_log2-le, floor_log2-lt}
 
 -- ---- the class of a size

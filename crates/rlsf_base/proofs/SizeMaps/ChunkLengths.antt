@@ -5,9 +5,9 @@ use Rattle.std.specs.Option.{option_and_then, option_map}
 use Rattle.std.proofs.lemmas.Bool.{cases_lt, cond-true, cond-false, le-leb, lt-ltb, lt-leb, le-ltb}
 use Rattle.std.proofs.lemmas.Option.{none-some, same_Some}
 use Rattle.std.proofs.Math.Nat.{mul-le-mul_right}
-use Rattle.rlsf_base.specs.Rounding.{round32}
-use Rattle.rlsf_base.specs.SizeClass.{class_of, class_start, is_row_length, reaching_class, Reaches}
-use Rattle.rlsf_base.specs.Sizes.{IsSize, budget_length, chunk_length, map_ceil_and_unmap, object_length, objects_in, payloads_length, pool_size_for_objects}
+use Rattle.rlsf_model_sizes.specs.Rounding.{round32}
+use Rattle.rlsf_model_sizes.specs.SizeClass.{class_of, class_start, is_row_length, reaching_class, Reaches}
+use Rattle.rlsf_model_sizes.specs.Sizes.{IsSize, budget_length, chunk_length, map_ceil_and_unmap, object_length, objects_in, payloads_length, pool_size_for_objects}
 use Rattle.rlsf_base.proofs.Numbers.Roundings.{round32-le, round32-multiple}
 use Rattle.rlsf_base.proofs.SizeClasses.Order.{IsFirstReaching-reaching_class}
 use Rattle.rlsf_base.proofs.SizeMaps.Laws.{IsUnmapped-some}

@@ -3,7 +3,7 @@ use Rattle.std.proofs.Common.{◌≡◌, ℕ, suc, ◌+◌, ◌-◌, ◌*◌, �
 use Rattle.std.specs.Prelude.{◌==◌}
 use Rattle.std.proofs.lemmas.Bool.{eqb-true, or_cases}
 use Rattle.std.proofs.Math.Nat.{div-div-eq-div-mul, mul-div-mul_right, pow-suc}
-use Rattle.rlsf_base.specs.SizeClass.{is_row_length}
+use Rattle.rlsf_model_sizes.specs.SizeClass.{is_row_length}
 use Rattle.rlsf_base.proofs.Layouts.{pow-quotient}
 use Rattle.rlsf_base.proofs.Numbers.PowersOfTwo.{pow-between}
 

@@ -10,9 +10,9 @@ use Rattle.std.proofs.Math.Nat.{div-eq_of_eq-mul_left, le_of_mul-le-mul_right, l
 use Rattle.std.proofs.Math.Pow.{pow_mono}
 use Rattle.rlsf_base.specs.ClassLaws.{MappedIsFirstReaching, UnmappedIsEnough, UnmappedBeginsItsClass, UnreachedIsNotUnmapped, LongestBlockHasAClass, PoolIsOneChunk}
 use Rattle.rlsf_base.specs.ClassLaws.{PoolContainsItsAllocation}
-use Rattle.rlsf_base.specs.PowerOfTwo.{floor_log2}
-use Rattle.rlsf_base.specs.SizeClass.{class_of, class_start, is_row_length, IsValidClass, least_size, next_class, reaching_class, Reaches}
-use Rattle.rlsf_base.specs.Sizes.{IsSize, map_ceil_and_unmap, request_size, valid_indices}
+use Rattle.rlsf_model_sizes.specs.PowerOfTwo.{floor_log2}
+use Rattle.rlsf_model_sizes.specs.SizeClass.{class_of, class_start, is_row_length, IsValidClass, least_size, next_class, reaching_class, Reaches}
+use Rattle.rlsf_model_sizes.specs.Sizes.{IsSize, map_ceil_and_unmap, request_size, valid_indices}
 use Rattle.rlsf_base.proofs.SizeClasses.Order.{IsFirstReaching-reaching_class}
 use Rattle.rlsf_base.proofs.Layouts.{pow-quotient}
 use Rattle.rlsf_base.proofs.Numbers.PowersOfTwo.{floor_log2-le, floor_log2-lt}

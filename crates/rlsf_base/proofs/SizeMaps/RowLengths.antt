@@ -3,7 +3,7 @@ use Rattle.std.proofs.Common.{◌≡◌, ℕ, ◌^◌, ◌<◌, ◌≤◌, Bool,
 use Rattle.std.specs.Prelude.{◌==◌}
 use Rattle.std.proofs.lemmas.Bool.{eqb-true, or_cases}
 use Rattle.std.specs.Int.{trailing_zeros}
-use Rattle.rlsf_base.specs.SizeClass.{is_row_length}
+use Rattle.rlsf_model_sizes.specs.SizeClass.{is_row_length}
 
 -- the number of trailing zeros is the exponent
 pub record IsPower (n : ℕ) : Type 0 where

@@ -5,8 +5,8 @@ use Rattle.std.proofs.lemmas.Bool.{cases_lt, cond-true, cond-false, lt-ltb, le-l
 use Rattle.std.proofs.lemmas.Nat.{pow_pos}
 use Rattle.std.proofs.Math.Nat.{lt_of_mul-lt-mul_right, mul-le-mul_right}
 use Rattle.rlsf_base.specs.SearchStart.{CanBegin, IsSearchStart, NoneReaches}
-use Rattle.rlsf_base.specs.SizeClass.{SizeClass, IsAtMost, IsFirstReaching, reaching_class, class_at}
-use Rattle.rlsf_base.specs.Sizes.{IsSize, indices, valid_indices}
+use Rattle.rlsf_model_sizes.specs.SizeClass.{SizeClass, IsAtMost, IsFirstReaching, reaching_class, class_at}
+use Rattle.rlsf_model_sizes.specs.Sizes.{IsSize, indices, valid_indices}
 use Rattle.rlsf_base.proofs.SizeClasses.Order.{IsFirstReaching-reaching_class, Reaches-IsAtMost}
 use Rattle.rlsf_base.proofs.SizeMaps.Quotients.{IsRoundedUp}
 use Rattle.rlsf_base.proofs.SizeMaps.Reaching.{class_rounded, in_row, reaching_class-at}

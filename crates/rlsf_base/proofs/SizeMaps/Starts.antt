@@ -3,7 +3,7 @@ use Rattle.std.proofs.Common.{◌≡◌, ℕ, suc, ◌+◌, ◌-◌, ◌*◌, �
 use Rattle.std.proofs.lemmas.Bool.{cases_lt, cond-true, cond-false, lt-ltb, le-ltb}
 use Rattle.std.proofs.lemmas.Nat.{pow_pos}
 use Rattle.std.proofs.Math.Nat.{le_of_mul-le-mul_right, lt_of_mul-lt-mul_right, mul-div_cancel_left, mul-le-mul_left, mul-le-mul_right, pow-suc}
-use Rattle.rlsf_base.specs.SizeClass.{SizeClass, class_of, class_start, reaching_class}
+use Rattle.rlsf_model_sizes.specs.SizeClass.{SizeClass, class_of, class_start, reaching_class}
 use Rattle.rlsf_base.proofs.Layouts.{pow-quotient}
 use Rattle.rlsf_base.proofs.SizeMaps.Quotients.{IsRoundedUp, IsRoundedUp-by_rest, IsRoundedUp-scaled}
 use Rattle.rlsf_base.proofs.SizeMaps.Reaching.{in_row, class_rounded, class_of-at, reaching_class-at}

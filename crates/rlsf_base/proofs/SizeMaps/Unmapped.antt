@@ -4,8 +4,8 @@ use Rattle.std.proofs.lemmas.Bool.{cases_lt, cond-true, cond-false, lt-ltb, le-l
 use Rattle.std.proofs.lemmas.Nat.{pow_pos}
 use Rattle.std.proofs.Math.Nat.{div-eq_of_eq-mul_left, le_of_mul-le-mul_right, mul-le-mul_left, mul-le-mul_right, pow-suc}
 use Rattle.std.proofs.Math.Pow.{pow_mono}
-use Rattle.rlsf_base.specs.SizeClass.{SizeClass, class_start, least_size, reaching_class}
-use Rattle.rlsf_base.specs.Sizes.{map_ceil_and_unmap}
+use Rattle.rlsf_model_sizes.specs.SizeClass.{SizeClass, class_start, least_size, reaching_class}
+use Rattle.rlsf_model_sizes.specs.Sizes.{map_ceil_and_unmap}
 use Rattle.rlsf_base.proofs.SizeClasses.Order.{IsFirstReaching-reaching_class}
 
 -- ---- a size where a class begins is in the class's row

@@ -1,7 +1,7 @@
 -- Sizes and their classes, checked on numbers. A line has FLLEN, SLLEN and a size; the indices of its class; those of the first
 -- class that reaches it; and the least size of that class.
 use Rattle.std.proofs.Common.{◌≡◌, ℕ, ◌-◌, ◌^◌, Option, Some, None, [], ◌∷◌, map, refl}
-use Rattle.rlsf_base.specs.Sizes.{map_floor, map_ceil, map_ceil_and_unmap, max_pool_size}
+use Rattle.rlsf_model_sizes.specs.Sizes.{map_floor, map_ceil, map_ceil_and_unmap, max_pool_size}
 
 -- what is computed of a size
 abbrev Row : Type 0

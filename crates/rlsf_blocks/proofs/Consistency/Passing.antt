@@ -3,7 +3,7 @@ use Rattle.std.proofs.Common.{◌≡◌, ◌≢◌, ◌⊎◌, ℕ, ◌+◌, ◌
 use Rattle.std.proofs.lemmas.Bool.{cases_lt}
 use Rattle.rlsf_base.specs.declared.memory.range.Range.{Range}
 use Rattle.rlsf_base.specs.Range.{end_of}
-use Rattle.rlsf_base.specs.Sizes.{IsSize}
+use Rattle.rlsf_model_sizes.specs.Sizes.{IsSize}
 use Rattle.rlsf_base.specs.Space.{IsWord, Space, range_of, word_at}
 use Rattle.rlsf_blocks.specs.Blocks.{Block, HasBlock, free, used}
 use Rattle.rlsf_blocks.specs.Steps.Walk.{BlockBegins}

@@ -3,7 +3,7 @@ use Rattle.std.proofs.Common.{◌≡◌, ℕ, ◌+◌, ◌-◌, ◌%◌, ◌^◌
 use Rattle.std.proofs.lemmas.Bool.{cases_lt}
 use Rattle.rlsf_base.specs.declared.memory.range.Range.{Range}
 use Rattle.rlsf_base.specs.Range.{end_of}
-use Rattle.rlsf_base.specs.SizeClass.{IsValid, IsValidClass, class_of}
+use Rattle.rlsf_model_sizes.specs.SizeClass.{IsValid, IsValidClass, class_of}
 use Rattle.rlsf_base.specs.Space.{Space, bytes_in, range_of, word_at}
 use Rattle.rlsf_blocks.proofs.Allocate.Placements.{length-bytes_in}
 use Rattle.rlsf_blocks.proofs.Words.Apart.{home_of_free}

@@ -1,8 +1,8 @@
 -- A memory and a table that represent a state are consistent over its chunks.
 use Rattle.std.proofs.Common.{◌≡◌, ◌≢◌, ℕ, ◌+◌, ◌-◌, ◌%◌, ◌<◌, ◌≤◌, List, true, arith, sym, ◌∙◌, ap, subst, inl, inr}
 use Rattle.rlsf_base.specs.declared.memory.range.Range.{Range}
-use Rattle.rlsf_base.specs.SizeClass.{class_of, class_at}
-use Rattle.rlsf_base.specs.Sizes.{IsSize}
+use Rattle.rlsf_model_sizes.specs.SizeClass.{class_of, class_at}
+use Rattle.rlsf_model_sizes.specs.Sizes.{IsSize}
 use Rattle.rlsf_base.specs.Range.{end_of}
 use Rattle.rlsf_base.specs.Space.{Space, word_at, word_range}
 use Rattle.rlsf_base.proofs.SizeClasses.Reach.{division-lt}

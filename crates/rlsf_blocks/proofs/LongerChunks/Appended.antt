@@ -6,7 +6,7 @@ use Rattle.std.specs.Option.{is_some}
 use Rattle.std.specs.Prelude.{if◌then◌else◌}
 use Rattle.rlsf_base.specs.declared.memory.range.Range.{Range}
 use Rattle.rlsf_base.specs.Range.{end_of}
-use Rattle.rlsf_base.specs.Sizes.{max_pool_size}
+use Rattle.rlsf_model_sizes.specs.Sizes.{max_pool_size}
 use Rattle.rlsf_base.specs.Space.{Space}
 use Rattle.rlsf_table.specs.Counts.{Costs}
 use Rattle.rlsf_model.specs.Insert.{aligned_part, appended, appended_bytes, bytes_taken, cut, extended, grown, total_length, Appends, Inserts, IsNext}

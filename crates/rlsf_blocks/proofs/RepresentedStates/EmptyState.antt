@@ -1,7 +1,7 @@
 -- A new value represents the empty state.
 use Rattle.std.proofs.Common.{ℕ, ◌+◌, ◌^◌, ◌<◌, [], length}
 use Rattle.rlsf_base.specs.Space.{Space, range_of}
-use Rattle.rlsf_base.specs.SizeClass.{IsValid}
+use Rattle.rlsf_model_sizes.specs.SizeClass.{IsValid}
 use Rattle.rlsf_model.specs.State.{empty}
 use Rattle.rlsf_table.specs.Table.{Table, HasTable}
 use Rattle.rlsf_table.proofs.Tables.RowLengths.{row_length-bounds}

@@ -1,8 +1,8 @@
 -- How a free block is linked into the list of its class. Each word that counts lies in one of the pools `ps`.
 use Rattle.std.specs.Prelude.{◌≡◌, ◌≢◌, ℕ, ◌+◌, ◌^◌, ◌<◌, List}
 use Rattle.rlsf_base.specs.declared.memory.range.Range.{Range}
-use Rattle.rlsf_base.specs.SizeClass.{class_of}
-use Rattle.rlsf_base.specs.Sizes.{IsSize}
+use Rattle.rlsf_model_sizes.specs.SizeClass.{class_of}
+use Rattle.rlsf_model_sizes.specs.Sizes.{IsSize}
 use Rattle.rlsf_base.specs.Space.{Space, word_at}
 use Rattle.rlsf_table.specs.Table.{IsClassAt, Table, head_at}
 use Rattle.rlsf_blocks.specs.Consistency.Pools.{IsPoolWord}

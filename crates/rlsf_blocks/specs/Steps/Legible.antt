@@ -1,7 +1,7 @@
 -- Words that may be read.
 use Rattle.std.specs.Prelude.{◌≡◌, ◌≢◌, ◌⊎◌, ℕ, ◌+◌, ◌<◌, List}
 use Rattle.rlsf_base.specs.OpenSpace.{IsHere, IsReadable}
-use Rattle.rlsf_base.specs.Sizes.{IsSize}
+use Rattle.rlsf_model_sizes.specs.Sizes.{IsSize}
 use Rattle.rlsf_base.specs.Space.{Space, word_at, word_range}
 use Rattle.rlsf_table.specs.Table.{Table, head_at}
 use Rattle.rlsf_blocks.specs.Consistency.Pools.{IsPoolWord}

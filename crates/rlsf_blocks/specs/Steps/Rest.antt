@@ -3,8 +3,8 @@ use Rattle.std.specs.Prelude.{◌≡◌, ℕ, ◌+◌, ◌%◌, ◌<◌, ◌≤�
 use Rattle.rlsf_base.specs.declared.memory.layout.Layout.{Layout}
 use Rattle.rlsf_base.specs.declared.memory.range.Range.{Range}
 use Rattle.rlsf_base.specs.Range.{end_of, range_at}
-use Rattle.rlsf_base.specs.SizeClass.{class_of}
-use Rattle.rlsf_base.specs.Sizes.{request_size}
+use Rattle.rlsf_model_sizes.specs.SizeClass.{class_of}
+use Rattle.rlsf_model_sizes.specs.Sizes.{request_size}
 use Rattle.rlsf_base.specs.Space.{Space, word_at}
 use Rattle.rlsf_base.specs.OpenSpace.{IsOwned}
 use Rattle.rlsf_table.specs.Rewrites.{Rewrites}

@@ -1,8 +1,8 @@
 //! The class table: its bitmaps and its heads.
 
 ghost use Rattle.std.specs.Prelude.{◌≡◌, ◌↔◌, ◌<◌, true, slice_index};
-ghost use Rattle.rlsf_base.specs.SizeClass.{IsValid};
-ghost use Rattle.rlsf_base.specs.Sizes.{IsSize};
+ghost use Rattle.rlsf_model_sizes.specs.SizeClass.{IsValid};
+ghost use Rattle.rlsf_model_sizes.specs.Sizes.{IsSize};
 ghost use Rattle.rlsf_int.specs.Bits.{bit};
 ghost use Rattle.rlsf_table.specs.Table.{IsClassAt};
 ghost use Rattle.rlsf_blocks.specs.Consistency.Heads.{AgreesAt, HasHeads, IsFirstOf, RowAgrees};

@@ -2,8 +2,8 @@
 
 ghost use Rattle.std.specs.Prelude.{◌≡◌, ◌≢◌, ◌↔◌, ◌+◌, true};
 ghost use Rattle.rlsf_base.specs.Range.{range_at};
-ghost use Rattle.rlsf_base.specs.SizeClass.{IsValid};
-ghost use Rattle.rlsf_base.specs.Sizes.{IsSize};
+ghost use Rattle.rlsf_model_sizes.specs.SizeClass.{IsValid};
+ghost use Rattle.rlsf_model_sizes.specs.Sizes.{IsSize};
 ghost use Rattle.rlsf_blocks.specs.Consistency.Linked.{IsHead, IsLinked, IsNeighbour, SameClass};
 ghost use Rattle.rlsf_blocks.specs.Consistency.Pools.{IsPoolWord};
 ghost use Rattle.rlsf_blocks.specs.Steps.Legible.{HasLegibleLinks, IsLegibleAt};

@@ -1,6 +1,6 @@
 -- Whether an allocator's parameters are valid, as a test.
 use Rattle.std.specs.Prelude.{ℕ, Bool, ◌&&◌, nat_le, nat_lt}
-use Rattle.rlsf_base.specs.SizeClass.{is_row_length}
+use Rattle.rlsf_model_sizes.specs.SizeClass.{is_row_length}
 
 -- there are rows, and classes in each, and no more than the bitmaps have bits
 abbrev pub is_valid : ℕ → ℕ → ℕ → ℕ → Bool

@@ -1,6 +1,6 @@
 -- Marks of payloads.
 use Rattle.std.specs.Prelude.{ℕ, suc, Option, Some, None}
-use Rattle.rlsf_base.specs.PowerOfTwo.{floor_log2}
+use Rattle.rlsf_model_sizes.specs.PowerOfTwo.{floor_log2}
 
 -- the mark that is set where a payload has the alignment, if there is one
 abbrev pub mark_of : Option ℕ → ℕ

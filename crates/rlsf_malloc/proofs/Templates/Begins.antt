@@ -25,7 +25,7 @@ use Rattle.rlsf_base.specs.Steps.Ownership.{IsInBlock}
 use Rattle.rlsf_base.specs.contracts.memory.open_memory.OpenMemory.{the_row as M}
 use Rattle.rlsf_base.proofs.memory.open_memory.OpenMemory.TheLaws as memory_laws
 use Rattle.rlsf_base.specs.contracts.memory.open_memory.OpenMemory.over_addresses as g
-use Rattle.rlsf_base.specs.SizeClass.{IsValid}
+use Rattle.rlsf_model_sizes.specs.SizeClass.{IsValid}
 use Rattle.rlsf_malloc.proofs.HeapKinds.{Kind, row}
 use Rattle.rlsf_malloc.proofs.Steps.{at_kind, kind_lasts, lasting, tokens, all_shares}
 use Rattle.rlsf_malloc_calls.specs.Calls.{IsAllOut}

@@ -15,7 +15,7 @@ use denote.Slice.{ShrSlice, shr_slice_vals, shr_slice_Tells}
 use Rattle.rlsf_c_lemmas.proofs.Lending.{in_its_block, lends}
 use contract.BorrowLft.{⊑_static}
 use contract.Lifetimes.{toks}
-use Rattle.rlsf_base.specs.SizeClass.{IsValid}
+use Rattle.rlsf_model_sizes.specs.SizeClass.{IsValid}
 use Rattle.rlsf_malloc.proofs.HeapKinds.{Kind, words}
 use Rattle.rlsf_malloc.proofs.Steps.{at_row, row_lasts, lasting, tokens, all_shares}
 use Rattle.rlsf_malloc.specs.Handle.{HoldsValue, HoldsSome}

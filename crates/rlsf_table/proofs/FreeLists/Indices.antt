@@ -1,9 +1,9 @@
 -- The two indices of the class of a free block.
 use Rattle.std.proofs.Common.{◌≡◌, ℕ, ◌+◌, ◌-◌, ◌≤◌, arith, refl, sym, ◌∙◌, ap}
 use mathlib.Core.Path.{ap₂}
-use Rattle.rlsf_base.specs.PowerOfTwo.{floor_log2}
-use Rattle.rlsf_base.specs.SizeClass.{class_of, IsValid}
-use Rattle.rlsf_base.specs.Sizes.{indices}
+use Rattle.rlsf_model_sizes.specs.PowerOfTwo.{floor_log2}
+use Rattle.rlsf_model_sizes.specs.SizeClass.{class_of, IsValid}
+use Rattle.rlsf_model_sizes.specs.Sizes.{indices}
 use Rattle.rlsf_base.specs.declared.memory.range.Range.{Range}
 use Rattle.rlsf_base.proofs.Numbers.PowersOfTwo.{floor_log2-lt, pow-between}
 use Rattle.rlsf_base.proofs.SizeClasses.Reach.{division-lt}

@@ -1,7 +1,7 @@
 -- The links of one class were written: the lists of the other classes are as they were.
 use Rattle.std.proofs.Common.{◌≡◌, ℕ, ◌+◌, ◌≤◌, List, arith, ap}
 use Rattle.std.proofs.lemmas.Bool.{cases_eq}
-use Rattle.rlsf_base.specs.SizeClass.{class_of, class_at}
+use Rattle.rlsf_model_sizes.specs.SizeClass.{class_of, class_at}
 use Rattle.rlsf_base.specs.declared.memory.range.Range.{Range}
 use Rattle.rlsf_base.specs.Space.{Space}
 use Rattle.rlsf_model.specs.Lists.{IsIn}

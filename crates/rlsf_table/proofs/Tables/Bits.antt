@@ -5,7 +5,7 @@ use Rattle.std.specs.List.{list_any}
 use Rattle.std.proofs.Math.Bool.{or_comm, and-true}
 use Rattle.std.proofs.lemmas.Bool.{cases_eq, eq-eqb, ne_eqb, and_from, and_left, and_right}
 use Rattle.rlsf_base.specs.declared.memory.range.Range.{Range}
-use Rattle.rlsf_base.specs.SizeClass.{SizeClass, class_of, class_at}
+use Rattle.rlsf_model_sizes.specs.SizeClass.{SizeClass, class_of, class_at}
 use Rattle.rlsf_int.specs.Bits.{bit, bit-zero}
 use Rattle.rlsf_int.proofs.Bits.{same_from_ones}
 use Rattle.rlsf_model.specs.Allocate.{has_class}

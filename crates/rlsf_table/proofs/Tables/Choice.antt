@@ -2,7 +2,7 @@
 use Rattle.std.proofs.Common.{◌≡◌, ℕ, ◌<◌, true≢false, List, [], ◌∷◌, Some, None, find, arith, refl, sym, ◌∙◌, subst}
 use Rattle.rlsf_base.specs.declared.memory.range.Range.{Range}
 use Rattle.rlsf_base.specs.SearchStart.{IsSearchStart, NoneReaches}
-use Rattle.rlsf_base.specs.SizeClass.{class_of, IsAtMost, Reaches, class_at}
+use Rattle.rlsf_model_sizes.specs.SizeClass.{class_of, IsAtMost, Reaches, class_at}
 use Rattle.rlsf_base.specs.Space.{Space}
 use Rattle.rlsf_base.proofs.SizeClasses.Reach.{division-lt}
 use Rattle.rlsf_model.specs.Allocate.{has_class, choice}

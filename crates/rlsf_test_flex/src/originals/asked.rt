@@ -1,6 +1,6 @@
 //! The original's two sources: what they answer, and what they are asked.
 
-ghost use Rattle.rlsf_base.specs.PowerOfTwo.{IsPowerOfTwo};
+ghost use Rattle.rlsf_model_sizes.specs.PowerOfTwo.{IsPowerOfTwo};
 
 use super::START;
 use rlsf_base::memory::Range;

@@ -3,7 +3,7 @@
 
 mod lists;
 
-ghost use Rattle.rlsf_base.specs.SizeClass.{IsValid};
+ghost use Rattle.rlsf_model_sizes.specs.SizeClass.{IsValid};
 
 use self::lists::LISTS;
 use crate::answers::passes;

@@ -1,7 +1,7 @@
 -- Where the reference model's calls lead, except for the bytes of payloads.
 use Rattle.std.specs.Prelude.{ℕ, [], map, find, ◌==◌, Option, Some, None}
 use Rattle.rlsf_base.specs.declared.memory.range.Range.{Range}
-use Rattle.rlsf_base.specs.Sizes.{max_pool_size, request_size}
+use Rattle.rlsf_model_sizes.specs.Sizes.{max_pool_size, request_size}
 use Rattle.rlsf_model.specs.Allocate.{choice, given, placed}
 use Rattle.rlsf_model.specs.Insert.{aligned_part, appended, cut, with_chunks}
 use Rattle.rlsf_model.specs.Reallocate.{Plan, plan, replanned}

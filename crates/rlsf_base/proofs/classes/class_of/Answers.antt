@@ -2,8 +2,8 @@ use Rattle.std.proofs.Common.{◌≡◌, ℕ, ◌-◌, ◌*◌, ◌/◌, ◌%◌
 use Rattle.std.specs.Int.{leading_zeros, trailing_zeros}
 use Rattle.std.proofs.lemmas.Nat.{leading_top}
 use Rattle.std.proofs.Math.Nat.{pow-suc}
-use Rattle.rlsf_base.specs.SizeClass.{is_row_length}
-use Rattle.rlsf_base.specs.Sizes.{indices}
+use Rattle.rlsf_model_sizes.specs.SizeClass.{is_row_length}
+use Rattle.rlsf_model_sizes.specs.Sizes.{indices}
 use Rattle.rlsf_base.proofs.Numbers.PowersOfTwo.{pow-between}
 use Rattle.rlsf_base.proofs.SizeMaps.Reaching.{quotient_bounds, class_of-at}
 use Rattle.rlsf_base.proofs.SizeMaps.RowLengths.{IsPower-row_length}

@@ -1,5 +1,5 @@
 use Rattle.std.proofs.Common.{◌≡◌, ◌-◌, ◌*◌, ◌/◌, ◌^◌, arith, sym, ap, ◌∙◌}
-use Rattle.rlsf_base.specs.Sizes.{indices}
+use Rattle.rlsf_model_sizes.specs.Sizes.{indices}
 use Rattle.rlsf_base.proofs.SizeMaps.Doubled.{IsRow, IsRow-doubled, IsScaled-row_length}
 use Rattle.rlsf_base.proofs.SizeMaps.Reaching.{class_of-at, quotient_bounds}
 use Rattle.rlsf_base.proofs.classes.class_of_block.Given as given

@@ -1,9 +1,9 @@
 use Rattle.std.proofs.Common.{ℕ, ◌+◌, ◌^◌, ◌<◌, ◌≤◌, Bool, true, false, Some, None, rules, arith, cond, sym, ap, ◌∙◌}
 use Rattle.std.specs.Prelude.{nat_lt}
 use Rattle.std.proofs.lemmas.Bool.{cond-true, lt-ltb}
-use Rattle.rlsf_base.specs.PowerOfTwo.{floor_log2}
-use Rattle.rlsf_base.specs.SizeClass.{SizeClass, class_of, next_class, reaches, reaching_class}
-use Rattle.rlsf_base.specs.Sizes.{indices}
+use Rattle.rlsf_model_sizes.specs.PowerOfTwo.{floor_log2}
+use Rattle.rlsf_model_sizes.specs.SizeClass.{SizeClass, class_of, next_class, reaches, reaching_class}
+use Rattle.rlsf_model_sizes.specs.Sizes.{indices}
 use Rattle.rlsf_base.proofs.Numbers.PowersOfTwo.{floor_log2-le, pow-between}
 use Rattle.rlsf_base.proofs.SizeMaps.Reaching.{in_row}
 use Rattle.rlsf_base.proofs.classes.map_ceil.Goals as goal

@@ -1,4 +1,4 @@
-use Rattle.rlsf_base.specs.SizeClass.{class_of}
+use Rattle.rlsf_model_sizes.specs.SizeClass.{class_of}
 use Rattle.rlsf_base.proofs.classes.map_floor.Goals as goal
 
 pub returns : goal.returns

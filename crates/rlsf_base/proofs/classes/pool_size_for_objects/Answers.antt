@@ -1,7 +1,7 @@
 use Rattle.std.proofs.Common.{◌≡◌, ◌+◌, ◌-◌, ◌*◌, Some, arith, sym, ◌∙◌, ap}
 use Rattle.std.specs.Option.{option_and_then, option_map}
-use Rattle.rlsf_base.specs.Rounding.{round32}
-use Rattle.rlsf_base.specs.Sizes.{chunk_length, map_ceil_and_unmap, object_length, objects_in}
+use Rattle.rlsf_model_sizes.specs.Rounding.{round32}
+use Rattle.rlsf_model_sizes.specs.Sizes.{chunk_length, map_ceil_and_unmap, object_length, objects_in}
 use Rattle.rlsf_base.proofs.SizeMaps.ChunkLengths.{chunk_length-past, object_length-enough, object_length-past, objects-none}
 use Rattle.rlsf_base.proofs.classes.pool_size_for_objects.Goals as goal
 

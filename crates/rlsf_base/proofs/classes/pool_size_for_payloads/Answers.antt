@@ -1,6 +1,6 @@
 use Rattle.std.proofs.Common.{◌≡◌, ◌∙◌, ap, arith, sym}
 use Rattle.std.specs.Option.{option_and_then}
-use Rattle.rlsf_base.specs.Sizes.{chunk_length, map_ceil_and_unmap, payloads_length, request_size}
+use Rattle.rlsf_model_sizes.specs.Sizes.{chunk_length, map_ceil_and_unmap, payloads_length, request_size}
 use Rattle.rlsf_base.proofs.SizeMaps.ChunkLengths.{chunk_length-past, payloads-are}
 use Rattle.rlsf_base.proofs.SizeMaps.Laws.{IsUnmapped-some, pool_fits}
 use Rattle.rlsf_base.proofs.classes.pool_size_for_payloads.Goals as goal

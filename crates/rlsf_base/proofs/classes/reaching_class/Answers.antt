@@ -3,8 +3,8 @@ use Rattle.std.proofs.Common.{inl, inr, refl, ◌≡◌, ℕ, ◌+◌, ◌-◌, 
 use Rattle.std.proofs.lemmas.Bool.{cases_lt, cond-true, cond-false, lt-ltb, le-ltb}
 use Rattle.std.proofs.lemmas.Nat.{div_below, le-div, pow_pos}
 use Rattle.std.proofs.Math.Nat.{div-eq_of_lt-le, le_of_mul-le-mul_right, lt_of_mul-lt-mul_right, mod-eq-sub-div-mul, mul-le-mul_right}
-use Rattle.rlsf_base.specs.SizeClass.{is_row_length, reaching_class}
-use Rattle.rlsf_base.specs.Sizes.{indices}
+use Rattle.rlsf_model_sizes.specs.SizeClass.{is_row_length, reaching_class}
+use Rattle.rlsf_model_sizes.specs.Sizes.{indices}
 use Rattle.rlsf_base.proofs.SizeMaps.Quotients.{IsRoundedUp}
 use Rattle.rlsf_base.proofs.SizeMaps.Reaching.{in_row, reaching_class-at}
 use Rattle.rlsf_base.proofs.SizeMaps.RowLengths.{IsPower-row_length}

@@ -1,7 +1,7 @@
 use Rattle.std.proofs.Common.{◌≡◌, ◌+◌, ◌-◌, ◌*◌, ◌^◌, ◌<◌, ◌≤◌, bit_and, arith, ap, ◌∙◌, w64}
 use Rattle.std.specs.Int.{trailing_zeros}
 use Rattle.std.proofs.Math.Nat.{mul-le-mul_right}
-use Rattle.rlsf_base.specs.SizeClass.{class_start, reaching_class}
+use Rattle.rlsf_model_sizes.specs.SizeClass.{class_start, reaching_class}
 use Rattle.rlsf_base.proofs.SizeMaps.Masks.{mask, rounded-fits, rounded-past}
 use Rattle.rlsf_base.proofs.SizeMaps.RowLengths.{IsPower-row_length}
 use Rattle.rlsf_base.proofs.SizeMaps.Starts.{class_start-rounded}

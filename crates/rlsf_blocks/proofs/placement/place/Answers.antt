@@ -1,7 +1,7 @@
 use Rattle.std.proofs.Common.{◌≡◌, ◌+◌, ◌-◌, ◌^◌, ◌<◌, ◌≤◌, Some, arith, refl, sym, ◌∙◌, rules, subst}
 use Rattle.rlsf_blocks.proofs.Words.NeverOut.{free_word}
 use Rattle.rlsf_base.specs.declared.memory.range.Range.{Range}
-use Rattle.rlsf_base.specs.Sizes.{request_size}
+use Rattle.rlsf_model_sizes.specs.Sizes.{request_size}
 use Rattle.rlsf_model.specs.Allocate.{choice}
 use Rattle.rlsf_model.specs.Payload.{block_length, payload_of}
 use Rattle.rlsf_model.specs.State.{State}

@@ -1,5 +1,5 @@
 use Rattle.std.proofs.Common.{◌↔◌, IsTrue, Bool, sym, ◌∙◌, ap, subst}
-use Rattle.rlsf_base.specs.SizeClass.{IsValid}
+use Rattle.rlsf_model_sizes.specs.SizeClass.{IsValid}
 use Rattle.rlsf_checked.specs.Steps.Classes.{is_valid}
 use Rattle.rlsf_checked.proofs.Validity.{is_valid-iff}
 use Rattle.rlsf_checked.proofs.classes.are_valid.Goals as goal

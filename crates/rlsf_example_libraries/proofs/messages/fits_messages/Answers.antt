@@ -1,7 +1,7 @@
 use Rattle.std.proofs.Common.{◌≡◌, ◌≤◌, ◌-◌, Some, refl, sym, ◌∙◌, subst}
 use Rattle.std.proofs.lemmas.Bool.{le-leb, leb-true}
 use Rattle.std.proofs.lemmas.Option.{same_Some}
-use Rattle.rlsf_base.specs.Sizes.{pool_size_for_payloads}
+use Rattle.rlsf_model_sizes.specs.Sizes.{pool_size_for_payloads}
 use Rattle.rlsf_base.specs.Space.{range_of}
 use Rattle.rlsf_model.specs.Insert.{aligned_part}
 use Rattle.rlsf_example_libraries.proofs.messages.fits_messages.Goals as goal

@@ -3,7 +3,7 @@ use Rattle.std.proofs.lemmas.Bool.{cases_lt}
 use Rattle.std.proofs.lemmas.Bool.Decides.{nat_tests}
 use Rattle.std.proofs.lemmas.Grind.{common_steps}
 use Rattle.std.proofs.lemmas.Nat.{div_below}
-use Rattle.rlsf_base.specs.Sizes.{pool_size_to_contain_allocation}
+use Rattle.rlsf_model_sizes.specs.Sizes.{pool_size_to_contain_allocation}
 use Rattle.rlsf_base.proofs.Numbers.Roundings.{round32-le}
 use Rattle.rlsf_base.proofs.SizeMaps.Laws.{pool_contains_its_allocation}
 use Rattle.rlsf_example_libraries.proofs.objects.capacity_of.Goals as goal

@@ -1,7 +1,7 @@
 use Rattle.std.proofs.Common.{◌≡◌, ◌%◌, ◌∙◌, ap, sym, arith}
 use Rattle.std.proofs.Math.Nat.{pow-suc}
 use Rattle.rlsf_base.proofs.Numbers.PowersOfTwo.{floor_log2-unique}
-use Rattle.rlsf_base.specs.PowerOfTwo.{floor_log2}
+use Rattle.rlsf_model_sizes.specs.PowerOfTwo.{floor_log2}
 use Rattle.rlsf_global.proofs.live_table.code_of.Goals as goal
 
 pub returns : goal.returns

@@ -2,7 +2,7 @@
 use Rattle.std.proofs.Common.{◌≡◌, ℕ, ◌∷◌, ◌++◌, ◌+◌, List, ◌∙◌, ap, arith, inl, length, refl, subst, sym}
 use Rattle.rlsf_base.specs.Space.{Space, word_at}
 use Rattle.rlsf_base.specs.declared.memory.range.Range.{Range}
-use Rattle.rlsf_base.specs.SizeClass.{class_at}
+use Rattle.rlsf_model_sizes.specs.SizeClass.{class_at}
 use Rattle.rlsf_model.proofs.Choices.{has_class-from}
 use Rattle.rlsf_model.proofs.Coverage.{IsIn-append_right}
 use Rattle.rlsf_table.specs.Counts.{Costs}

@@ -1,5 +1,5 @@
 use Rattle.std.proofs.Common.{◌≡◌, ◌≢◌, ◌+◌, ◌-◌, ◌<◌, Some, None, true≢false, arith, refl, sym, ◌∙◌, ap, inl, inr, subst}
-use Rattle.rlsf_base.specs.SizeClass.{IsValidClass, class_of}
+use Rattle.rlsf_model_sizes.specs.SizeClass.{IsValidClass, class_of}
 use Rattle.rlsf_base.specs.Space.{word_at}
 use Rattle.rlsf_blocks.proofs.Walking.ChunkEnds.{IsInChunk, IsInChunk-start}
 use Rattle.rlsf_blocks.proofs.Consistency.Classes.{map_floor-none, map_floor-valid}

@@ -1,7 +1,7 @@
 use Rattle.std.proofs.Common.{ℕ, sym, ◌∙◌, ap}
 use mathlib.Core.Path.{ap₂}
 use Rattle.std.proofs.lemmas.Bool.{eq-eqb, eqb-true}
-use Rattle.rlsf_base.specs.Sizes.{indices}
+use Rattle.rlsf_model_sizes.specs.Sizes.{indices}
 use Rattle.rlsf_blocks.proofs.Consistency.Classes.{SameClass-indices}
 use Rattle.rlsf_blocks.proofs.consistency_check.links.same_class.Goals as goal
 

@@ -1,5 +1,5 @@
 use Rattle.std.proofs.Common.{◌^◌, ◌-◌, Some, IsSome, arith, refl, sym, ◌∙◌, ap, subst}
-use Rattle.rlsf_base.specs.PowerOfTwo.{IsPowerOfTwo}
+use Rattle.rlsf_model_sizes.specs.PowerOfTwo.{IsPowerOfTwo}
 use Rattle.rlsf_model.specs.Callers.{align_at}
 use Rattle.rlsf_checked.proofs.FieldsOverSteps.{marked_as}
 use Rattle.rlsf_checked.proofs.checked.CheckedTlsf.alignment.Goals as goal

@@ -1,6 +1,6 @@
 use Rattle.std.proofs.Common.{suc, sym, ◌∙◌, ap, subst}
 use Rattle.rlsf_base.specs.Addr.{at}
-use Rattle.rlsf_base.specs.PowerOfTwo.{IsPowerOfTwo, floor_log2}
+use Rattle.rlsf_model_sizes.specs.PowerOfTwo.{IsPowerOfTwo, floor_log2}
 use Rattle.rlsf_model.specs.Callers.{align_at}
 use Rattle.rlsf_checked.specs.Steps.Marks.{mark_of}
 use Rattle.rlsf_checked.proofs.FieldsOverSteps.{has_mark, marked_at, stands_after, unchanged}

@@ -1,6 +1,6 @@
 use Rattle.std.proofs.Common.{◌≡◌, ◌<◌, min, arith, lit<, ap, sym, subst, ◌∙◌}
 use Rattle.rlsf_base.specs.Range.{end_of}
-use Rattle.rlsf_base.specs.Rounding.{round32}
+use Rattle.rlsf_model_sizes.specs.Rounding.{round32}
 use Rattle.rlsf_model_global.proofs.Cursors.{first_cursor}
 use Rattle.rlsf_model_global.specs.Cursor.{first_page, page_cursor}
 use Rattle.rlsf_model_global.specs.Pages.{IsPageCursor}

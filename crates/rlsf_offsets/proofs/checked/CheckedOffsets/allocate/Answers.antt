@@ -1,7 +1,7 @@
 use Rattle.std.proofs.Common.{◌≡◌, ◌*◌, ◌<◌, ◌≤◌, ◌∙◌, true≢false, ap, arith, inl, inr, refl, subst, sym, ℕ}
 use Rattle.std.proofs.lemmas.Option.{none-some}
 use Rattle.std.specs.Prelude.{Err, is_some, true}
-use Rattle.rlsf_base.specs.PowerOfTwo.{IsPowerOfTwo}
+use Rattle.rlsf_model_sizes.specs.PowerOfTwo.{IsPowerOfTwo}
 use Rattle.rlsf_offsets.specs.Checked.{IsAllocation}
 use Rattle.rlsf_offsets.proofs.Allocations.{sized-same}
 use Rattle.rlsf_offsets.proofs.Bytes.{KeepsRanges-same}

@@ -1,6 +1,6 @@
 use Rattle.std.proofs.Common.{rules, ◌≡◌, ◌*◌, ◌∙◌, ap, inl, inr, refl, sym, true≢false, arith, length}
 use Rattle.std.specs.Prelude.{Err, is_ok}
-use Rattle.rlsf_base.specs.PowerOfTwo.{IsPowerOfTwo}
+use Rattle.rlsf_model_sizes.specs.PowerOfTwo.{IsPowerOfTwo}
 use Rattle.rlsf_base.proofs.Numbers.PowersOfTwo.{IsPowerOfTwo-positive}
 use Rattle.rlsf_offsets.specs.Units.{limit_of}
 use Rattle.rlsf_offsets.proofs.Live.{none_live}

@@ -2,7 +2,7 @@
 -- and SLLEN classes of equal width cut each row. All arithmetic is that of whole numbers without bound.
 use Rattle.std.specs.Prelude.{◌≡◌, ℕ, ◌+◌, ◌-◌, ◌*◌, ◌/◌, ◌^◌, ◌<◌, ◌≤◌, ◌⊎◌, Bool, ◌||◌, ◌==◌, IsTrue, nat_le, nat_lt}
 use Rattle.std.specs.Prelude.{if◌then◌else◌}
-use Rattle.rlsf_base.specs.PowerOfTwo.{floor_log2}
+use Rattle.rlsf_model_sizes.specs.PowerOfTwo.{floor_log2}
 
 -- a row, named by the exponent of the power of two that it begins at, and a place in it, counted from 0
 pub record SizeClass : Type 0 where

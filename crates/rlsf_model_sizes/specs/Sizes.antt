@@ -1,8 +1,8 @@
 -- What the allocator computes of sizes and layouts: indices of classes, pool sizes and requests.
 use Rattle.std.specs.Prelude.{◌≡◌, ℕ, ◌+◌, ◌-◌, ◌*◌, ◌%◌, ◌^◌, ◌<◌, Option, Some, None, nat_le, nat_lt, if◌then◌else◌}
 use Rattle.std.specs.Option.{option_and_then, option_map}
-use Rattle.rlsf_base.specs.Rounding.{round32}
-use Rattle.rlsf_base.specs.SizeClass.{SizeClass, class_of, reaching_class, least_size}
+use Rattle.rlsf_model_sizes.specs.Rounding.{round32}
+use Rattle.rlsf_model_sizes.specs.SizeClass.{SizeClass, class_of, reaching_class, least_size}
 
 -- the size of a block: a nonzero multiple of 32
 abbrev pub IsSize : ℕ → Type 0
