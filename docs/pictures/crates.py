@@ -58,7 +58,7 @@ LAYERS = [
         [(1, "rlsf_model", "the reference model: lists of ranges"), (1, "rlsf_model_global", "the model behind the lock")],
     ]),
     ("Base", "below all others", "#d6e4f5", [
-        [(1, "rlsf_int", "integers as sets of bits"), (2, "rlsf_base", "memory, layouts, size classes")],
+        [(1, "rlsf_int", "integers as sets of bits"), (1, "rlsf_model_sizes", "the model's sizes and classes"), (2, "rlsf_base", "memory, layouts, size classes")],
     ]),
 ]
 

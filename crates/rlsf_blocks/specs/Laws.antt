@@ -2,7 +2,7 @@
 use Rattle.std.specs.Prelude.{◌≡◌, ℕ, ◌+◌, ◌-◌, ◌≤◌, ◌==◌, length, map, nat_lt, if◌then◌else◌}
 use Rattle.rlsf_base.specs.Space.{Space, out_at, byte_at, bytes_in, word_at}
 use Rattle.rlsf_model.specs.Lists.{IsIn}
-use Rattle.rlsf_model.specs.State.{State, Used, usable, used_with_bytes}
+use Rattle.rlsf_model.specs.State.{State, Used, usable}
 use Rattle.rlsf_table.specs.Table.{Table}
 use Rattle.rlsf_blocks.specs.StandsFor.{Contents, contents, IsUnlent, StandsFor}
 
@@ -15,7 +15,7 @@ pub record DiffersInPayloads (m n : Space) (s : State) : Type 0 where
 
 -- the used block with the bytes that a memory has in its payload
 abbrev pub with_bytes_of : Space → Used → Used
-with_bytes_of n u = used_with_bytes u (bytes_in n (usable u))
+with_bytes_of n u = record { block = u.block; payload = u.payload; align = u.align; bytes = bytes_in n (usable u) }
 
 -- the state with the bytes that a memory has in its payloads
 abbrev pub read_from : Space → State → State

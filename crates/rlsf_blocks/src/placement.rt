@@ -7,7 +7,8 @@ ghost use Rattle.rlsf_model_sizes.specs.SizeClass.{IsValid};
 ghost use Rattle.rlsf_base.specs.Space.{word_at};
 ghost use Rattle.rlsf_base.specs.OpenSpace.{SameOwn, StaysHere};
 ghost use Rattle.rlsf_model.specs.Allocate.{Allocates, Places};
-ghost use Rattle.rlsf_model.specs.Payload.{block_length, payload_of};
+ghost use Rattle.rlsf_model.specs.Payload.{payload_of};
+ghost use Rattle.rlsf_model_sizes.specs.Rounding.{round32};
 ghost use Rattle.rlsf_model.specs.State.{State};
 ghost use Rattle.rlsf_table.specs.Counts.{Costs, Counts};
 ghost use Rattle.rlsf_table.specs.Table.{IsClassAt};
@@ -81,9 +82,9 @@ fn take_out<const FLLEN: usize, const SLLEN: usize>(
 fn front(block: usize, layout: Layout) -> (usize, usize)
     requires whole { block % 32 ≡ 0 }
     requires address { payload_of block layout.align < 2 ^ 64 }
-    requires length { block_length block (payload_of block layout.align) layout.size < 2 ^ 64 }
+    requires length { round32 (payload_of block layout.align - block + layout.size) < 2 ^ 64 }
     ensures payload { result.0 ≡ payload_of block layout.align }
-    ensures length { result.1 ≡ block_length block result.0 layout.size }
+    ensures length { result.1 ≡ round32 (result.0 - block + layout.size) }
 {
     if layout.align() >= GRANULARITY {
         let payload = layout.align_up(block + HEADER);

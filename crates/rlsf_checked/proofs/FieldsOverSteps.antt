@@ -57,7 +57,7 @@ divisor-le n (suc m) some whole = grind (arith, cases_lt, mod-eq_of_lt)
 pub live_place : (fllen sllen : ℕ) (v : Allocator) → Stands fllen sllen v → (addr align : ℕ) → align_at v.state addr ≡ Some align → IsPlace v addr align
 unfolding Stands
 live_place fllen sllen v stands addr align is =
-    let w = stands.stands.well_formed in
+    let w = stands.well_formed in
     let (u, held, aligned) = align_at-live v.state addr align is in
     let used = w.used u held.0 in
     let (c, i, from, to, _) = payload_lies_in_one_chunk fllen sllen (range_of v.memory) v.state u w held.0 in
@@ -168,7 +168,7 @@ pub left_behind : (fllen sllen : ℕ) (v : Allocator) → Stands fllen sllen v �
 unfolding Stands
 left_behind fllen sllen v stands t addr align size to is step apart =
     let (u, held, aligned) = align_at-live v.state addr align is in
-    let resized = callers_see_map fllen sllen (range_of v.memory) v.state t (reallocate addr size (Some to)) stands.stands.well_formed (u, held) step in
+    let resized = callers_see_map fllen sllen (range_of v.memory) v.state t (reallocate addr size (Some to)) stands.well_formed (u, held) step in
     align_at-none t addr (resized.left apart)
 
 -- with a layout's size and alignment, none is refused

@@ -1,4 +1,5 @@
 -- What is true of a checked allocator's fields once a range was inserted or appended.
+use Rattle.std.specs.Option.{option_map_or}
 use Rattle.std.proofs.Common.{◌≡◌, ℕ, zero, suc, ◌*◌, ◌/◌, find, ◌+◌, ◌-◌, ◌%◌, ◌^◌, ◌<◌, ◌≤◌, ◌⊎◌, true, false, nat_le}
 use Rattle.std.proofs.Common.{nat_lt, List, [], ◌∷◌, length, Option, None, Some, Ok, Err, arith, refl, sym, ◌∙◌, ap, subst, inl, inr}
 use Rattle.std.proofs.lemmas.Bool.{and_parts, cases_lt, eqb-true, le-ltb, leb-true, lt-ltb, ltb-true}
@@ -12,7 +13,7 @@ use Rattle.rlsf_base.proofs.Numbers.Roundings.{round32-le}
 use Rattle.rlsf_blocks.specs.Blocks.{walked}
 use Rattle.rlsf_model.specs.Callers.{align_at}
 use Rattle.rlsf_model.specs.ChunkRows.{IsRow}
-use Rattle.rlsf_model.specs.Insert.{Appends, Inserts, IsClear, IsNext, IsUntouched, aligned_part, appended, appended_bytes, bytes_taken, cut, end_of_last, extended, grown_if, with_chunks}
+use Rattle.rlsf_model.specs.Insert.{Appends, Inserts, IsClear, IsNext, IsUntouched, aligned_part, appended, appended_bytes, bytes_taken, cut, end_of_last, extended, with_chunks, grown}
 use Rattle.rlsf_model.specs.Join.{ends_at}
 use Rattle.rlsf_model.specs.Lists.{IsIn}
 use Rattle.rlsf_model.specs.State.{State, empty}
@@ -116,7 +117,7 @@ module _ {fllen sllen : ℕ} {v : Allocator} {m : Codes ℕ} {pools : PoolList} 
   -- every address of a pool fits in a word
   pub pool_fits : end_of pools.last < 2 ^ 64
   unfolding Stands
-  pool_fits = omega (arith, is.high, is.stands.stands.well_formed.addressable)
+  pool_fits = omega (arith, is.high, is.stands.well_formed.addressable)
 
   module _ (w : Allocator) (stands : Stands fllen sllen w) (place : SamePlace v.memory w.memory) (aligns : align_at w.state ≡ align_at v.state) where
     -- the fields are those of a checked allocator with other pools
@@ -175,7 +176,7 @@ appended-chunks : (fllen : ℕ) (s : State) (r : Range) (start : ℕ) → r.star
     → (c : Range) → IsIn c (appended (max_pool_size fllen) r s).chunks → (end_of c ≤ r.start + n) × (IsIn c s.chunks ⊎ (start ≤ c.start))
 appended-chunks fllen s r start whole before n told old = go (max_pool_size fllen) refl told
   where
-    grown-chunks : (k : ℕ) (o : Option Range) → find (ends_at r.start) s.chunks ≡ o → (c : Range) → IsIn c (grown_if o k s).chunks
+    grown-chunks : (k : ℕ) (o : Option Range) → find (ends_at r.start) s.chunks ≡ o → (c : Range) → IsIn c (option_map_or (λ c. grown c k s) o s).chunks
         → (end_of c ≤ r.start + k) × (IsIn c s.chunks ⊎ (start ≤ c.start))
     grown-chunks k None found c i = (omega (arith, (old c i).0), inl i)
     grown-chunks k (Some d) found c (inl same) =
@@ -246,7 +247,7 @@ module _ {fllen sllen : ℕ} {v : Allocator} {m : Codes ℕ} {pools : PoolList} 
   unfolding Stands
   whole_start =
       let (c, i, ends) = last_chunk last_is in
-      let whole = (is.stands.stands.well_formed.chunks c i).whole in
+      let whole = (is.stands.well_formed.chunks c i).whole in
       omega (arith, whole.start, whole.len, ends, next)
 
   longer_row : (w : Allocator) (n : ℕ) → Appends fllen v.state r n w.state → IsRow w.state (walked (range_at pools.last.start (pools.last.len + n)))
@@ -255,14 +256,14 @@ module _ {fllen sllen : ℕ} {v : Allocator} {m : Codes ℕ} {pools : PoolList} 
       let p = walked pools.last in
       let ends : end_of p ≡ r.start = omega (arith, last_is.room, next) in
       let long : p.len + n ≡ pools.last.start + (pools.last.len + n) - p.start = omega (arith, last_is.room) in
-      subst (λ l. IsRow w.state (range_at p.start l)) long (IsRow-appended is.stands.stands.well_formed r p ends (omega (arith, last_is.room)) last_is.row n w.state step)
+      subst (λ l. IsRow w.state (range_at p.start l)) long (IsRow-appended is.stands.well_formed r p ends (omega (arith, last_is.room)) last_is.row n w.state step)
 
   -- no more is taken than the range has, so its end fits in a word
   pub appended_fits : (w : Allocator) (n : ℕ) → Appends fllen v.state r n w.state → (n ≤ r.len) × (end_of pools.last + n < 2 ^ 64)
   unfolding Stands
   appended_fits w n step =
       let few : n ≤ r.len = omega (arith, step.answer, (appended-le fllen v.state r).0) in
-      (few, omega (arith, few, lies_in.1, is.stands.stands.well_formed.addressable, next))
+      (few, omega (arith, few, lies_in.1, is.stands.well_formed.addressable, next))
 
   appended_pools : (w : Allocator) (n : ℕ) → Appends fllen v.state r n w.state → AreCheckedPools w.state (with_longer_last pools n)
   appended_pools w n step = record {

@@ -147,7 +147,7 @@ removed_pool {w = w} {pools = pools} is stands place aligns r one removes =
     let short : end_of (without_pool_at pools r.start).last ≤ end_of pools.last =
     cond_both (pools.last.start == r.start) (without_last pools) (pools_of (filter (λ p. not (p.start == r.start)) pools.earlier) pools.last)
     (λ (x : PoolList). end_of x.last ≤ end_of pools.last) (λ e. omega arith) (λ e. omega arith) in
-    renewed is w stands place aligns (without_pool_at pools r.start) (removed_pools is.stands.stands.well_formed is.pools r one removes) (omega (arith, is.low, same))
+    renewed is w stands place aligns (without_pool_at pools r.start) (removed_pools is.stands.well_formed is.pools r one removes) (omega (arith, is.low, same))
     (omega (arith, is.high, short))
 
 -- or the last one
@@ -156,7 +156,7 @@ pub removed_last_pool : {fllen sllen : ℕ} {v w : Allocator} {m : Codes ℕ} {p
     → IsChecked fllen sllen w m (without_last pools)
 unfolding Stands
 removed_last_pool {w = w} {pools = pools} is stands place aligns removes =
-    renewed is w stands place aligns (without_last pools) (removed_last is.stands.stands.well_formed is.pools removes) is.low (omega (arith, is.high))
+    renewed is w stands place aligns (without_last pools) (removed_last is.stands.well_formed is.pools removes) is.low (omega (arith, is.high))
 
 -- the part of the last pool that is iterated over is contiguous chunks, or empty
 pub last_row : {s : State} {pools : PoolList} → AreCheckedPools s pools → IsRow s (walked pools.last)

@@ -18,7 +18,7 @@ ghost use Rattle.rlsf_model.specs.Run.{Fills};
 ghost use Rattle.rlsf_model.specs.Sized.{live_bytes, live_count};
 ghost use Rattle.rlsf_model.specs.State.{empty};
 ghost use Rattle.rlsf_blocks.specs.Blocks.{AreBlocks, walked};
-ghost use Rattle.rlsf_tlsf.specs.Allocator.{Steps, Stands};
+ghost use Rattle.rlsf_tlsf.specs.Allocator.{IsRepresented, Stands, Steps};
 ghost use Rattle.rlsf_tlsf.specs.Bounds.{KeepsAllBounds, KeepsBounds, TakesRoom};
 ghost use Rattle.rlsf_tlsf.specs.Results.{IsAllocated, IsResized, KeepsFrameOfPools};
 ghost use Rattle.rlsf_checked.specs.Answers.{IsInsertAnswer, IsRefusedBy, append_answer, fits, if_in_range, if_live, is_next, is_within, addr_in, refusal_at, taken};
@@ -120,12 +120,13 @@ impl<
     const FLLEN: usize,
     const SLLEN: usize,
 > CheckedTlsf<FLBitmap, SLBitmap, FLLEN, SLLEN> {
-    /// Returns the memory, for reading.
+    /// Returns the memory, for reading. Its words and the class table encode the state (`represented`).
     ///
     /// Completes in constant time.
     pub fn memory_ref(&self) -> &Memory
         ensures memory { result.now ≡ self.now.heap.memory }
         ensures stands { Stands FLLEN SLLEN self.now.heap }
+        ensures represented { IsRepresented FLLEN SLLEN self.now.heap }
     {
         self.heap.memory_ref()
     }

@@ -173,7 +173,7 @@ module _ (v : StoreContents) (all : List Stored) (store : IsStore v all) where
       let long = (stands.well_formed.used u held.0).bytes in
       let begin = k.addr - m.start in
       let whole : take (usable u).len (drop begin m.bytes) ≡ u.bytes = ap (λ a. take (usable u).len (drop (a - m.start) m.bytes)) (sym held.1)
-      ∙ stands.payloads.bytes u held.0 in
+      ∙ stands.payloads u held.0 in
       sym (take-take n (usable u).len (drop begin m.bytes) (omega arith)) ∙ ap (take n) whole ∙ front
 
   -- and so at the places of some of them

@@ -2,20 +2,19 @@
 use Rattle.std.proofs.Common.{◌≡◌, ℕ, List, [], refl, ◌∙◌, subst}
 use Rattle.rlsf_base.specs.declared.memory.range.Range.{Range}
 use Rattle.rlsf_base.specs.Space.{SamePlace}
-use Rattle.rlsf_blocks.specs.StandsFor.{contents, StandsFor}
-use Rattle.rlsf_tlsf.specs.Allocator.{Allocator, IsInState, Stands, Steps}
+use Rattle.rlsf_tlsf.specs.Allocator.{Allocator, IsInState, IsStanding, Stands, Steps}
+use Rattle.rlsf_tlsf.specs.Lending.{LeavesRest}
 use Rattle.rlsf_flex.specs.StandsFor.{FlexContents, FlexStandsFor, IsFlexTlsf, StepsAlone, allocator_of, with_allocator}
 use Rattle.rlsf_model.specs.State.{State}
 use Rattle.rlsf_model.specs.Terms.{Terms}
 use Rattle.rlsf_flex.proofs.Frames.{stands_stepped}
-use Rattle.rlsf_flex.proofs.InnerAllocator.{opened}
+use Rattle.rlsf_flex.proofs.InnerAllocator.{opened, stood}
 
--- what leaves the state represents it
+-- what leaves the state is in it
 pub stays_in : {fllen sllen : ℕ} {v : Allocator} {s : State} → IsInState fllen sllen v s → (new : Allocator) → new.state ≡ v.state → Stands fllen sllen new
     → IsInState fllen sllen new s
 unfolding Stands
-stays_in {fllen} {sllen} is new same stands =
-    record { state = same ∙ is.state; stands = subst (StandsFor fllen sllen (contents new.memory new.table)) (same ∙ is.state) stands.stands; whole = stands.whole }
+stays_in {fllen} {sllen} is new same stands = record { state = same ∙ is.state; stands = subst (IsStanding fllen sllen new.memory) (same ∙ is.state) stands }
 
 module _ {S : Type 0} {fllen sllen : ℕ} {terms : S → Terms} {owes : S → List Range → Type 0} {v : FlexContents S} (h : FlexStandsFor fllen sllen terms owes v)
     (new : Allocator) (step : State → Type 0) (place : SamePlace v.memory new.memory) (none : v.memory.out ≡ [])
@@ -27,6 +26,11 @@ module _ {S : Type 0} {fllen sllen : ℕ} {terms : S → Terms} {owes : S → Li
   pub steps_alone : StepsAlone fllen sllen terms owes v (with_allocator v new) step
   unfolding StepsAlone
   steps_alone = let (is, stands, spare) = opened _ new step did in (is, refl, stands_alone, spare)
+
+-- whatever was left in a payload that was lent, the one over a source has the state with it
+pub left : {S : Type 0} {fllen sllen : ℕ} {terms : S → Terms} {owes : S → List Range → Type 0} {v : FlexContents S} → FlexStandsFor fllen sllen terms owes v
+    → (new : Allocator) → LeavesRest fllen sllen (allocator_of v) new → v.memory.out ≡ [] → FlexStandsFor fllen sllen terms owes (with_allocator v new)
+left h new (chunks, place, stands, touches, copied, spare) none = stands_stepped h new (stood new stands) chunks spare place none
 
 -- and what is true of every allocator's fields stays true
 pub IsFlexTlsf-alone : {S : Type 0} {fl_bits sl_bits fllen sllen : ℕ} {terms : S → Terms} {owes : S → List Range → Type 0} {v : FlexContents S}

@@ -131,8 +131,8 @@ spelled {S} {fllen} {sllen} {terms} {owes} {x} {a} kept {ranges} newest v has is
   is_first = is_newest ∙ is_first kept v.well_formed.newest;
   footers = v.footers has;
   placed = outstanding_in a.memory (terms x).space ranges v.well_formed.space v.well_formed.pools;
-  nonzero = v.machine.nonzero;
-  addressable = v.machine.well_formed.addressable;
+  nonzero = v.nonzero;
+  addressable = v.well_formed.machine.addressable;
 }
   where
     is_first : (k : Option Pool) → IsNewest (terms x) (kept_of k) ranges a.state.chunks → option_map (λ (p : Pool). p.range) k ≡ first ranges

@@ -7,8 +7,7 @@ use Rattle.rlsf_base.specs.Range.{end_of, LiesIn}
 use Rattle.rlsf_base.specs.Space.{Space, byte_at, bytes_in, out_at, range_of, word_at, word_range, IsWord, SamePlace}
 use Rattle.rlsf_base.proofs.Lending.WordIsHere.{word_at-kept}
 use Rattle.rlsf_blocks.specs.Spare.{IsSpare, IsSpareWord, KeepsSpare}
-use Rattle.rlsf_blocks.specs.StandsFor.{contents, StandsFor}
-use Rattle.rlsf_tlsf.specs.Allocator.{Allocator}
+use Rattle.rlsf_tlsf.specs.Allocator.{Allocator, HasBytesOf, IsStanding}
 use Rattle.rlsf_blocks.proofs.Allocate.Placements.{length-bytes_in}
 use Rattle.rlsf_flex.specs.Footers.{footer_of, Footers}
 use Rattle.rlsf_flex.specs.StandsFor.{FlexContents, FlexStandsFor, with_allocator}
@@ -112,12 +111,13 @@ Footers-kept m n s t (p ∷ ps) keeps leaves start len spare (first, second, res
 
 -- a step of the reference model that leaves the chunks is one of the allocator over a source
 pub stands_kept : {S : Type 0} {fllen sllen : ℕ} {terms : S → Terms} {owes : S → List Range → Type 0} {v : FlexContents S} (h : FlexStandsFor fllen sllen terms owes v)
-    (new : Allocator)
-    → StandsFor fllen sllen (contents new.memory new.table) new.state → new.state.chunks ≡ v.state.machine.chunks → KeepsSpare v.memory v.state.machine new.memory new.state
-    → LeavesSpare v.memory v.state.machine new.memory new.state
+    (new : Allocator) → 0 < new.memory.start → HasBytesOf new.memory new.state → IsWellFormed fllen sllen (range_of new.memory) new.state
+    → new.state.chunks ≡ v.state.machine.chunks
+    → KeepsSpare v.memory v.state.machine new.memory new.state → LeavesSpare v.memory v.state.machine new.memory new.state
     → new.memory.start ≡ v.memory.start → length new.memory.bytes ≡ length v.memory.bytes → FlexStandsFor fllen sllen terms owes (with_allocator v new)
-stands_kept {fllen = fllen} {sllen = sllen} {terms = terms} {v = v} h new stands chunks keeps leaves start len = record {
-  machine = stands;
+stands_kept {fllen = fllen} {sllen = sllen} {terms = terms} {v = v} h new nonzero payloads machine chunks keeps leaves start len = record {
+  nonzero = nonzero;
+  payloads = payloads;
   well_formed = well_formed;
   owed = h.owed;
   footers =
@@ -128,13 +128,13 @@ stands_kept {fllen = fllen} {sllen = sllen} {terms = terms} {v = v} h new stands
     well_formed : IsFlexWellFormed fllen sllen (range_of new.memory) (terms v.source) (with_machine v.state new.state)
     well_formed =
         with_machine_keeps (subst (λ m. IsFlexWellFormed fllen sllen m (terms v.source) v.state) (range_of-same v.memory new.memory start len) h.well_formed) new.state
-        (with_machine v.state new.state) stands.well_formed chunks refl
+        (with_machine v.state new.state) machine chunks refl
 
 -- the same, for a memory that stays at its place and of which nothing is out
 pub stands_stepped : {S : Type 0} {fllen sllen : ℕ} {terms : S → Terms} {owes : S → List Range → Type 0} {v : FlexContents S} (h : FlexStandsFor fllen sllen terms owes v)
-    (new : Allocator)
-    → StandsFor fllen sllen (contents new.memory new.table) new.state → new.state.chunks ≡ v.state.machine.chunks → KeepsSpare v.memory v.state.machine new.memory new.state
+    (new : Allocator) → IsStanding fllen sllen new.memory new.state → new.state.chunks ≡ v.state.machine.chunks
+    → KeepsSpare v.memory v.state.machine new.memory new.state
     → SamePlace v.memory new.memory → v.memory.out ≡ []
     → FlexStandsFor fllen sllen terms owes (with_allocator v new)
 stands_stepped {v = v} h new stands chunks keeps place none =
-    stands_kept h new stands chunks keeps (λ a from one two. out_at-place v.memory new.memory place none a) place.0 place.1
+    stands_kept h new stands.nonzero stands.payloads stands.well_formed chunks keeps (λ a from one two. out_at-place v.memory new.memory place none a) place.0 place.1

@@ -16,7 +16,7 @@ use Rattle.rlsf_flex.specs.Steps.Growth.{Took}
 use Rattle.rlsf_model.specs.Answers.{MayAnswer}
 use Rattle.rlsf_model.specs.FlexState.{FlexState, KeptPool}
 use Rattle.rlsf_model.specs.FlexWellFormed.{AreHoused, AreOutstanding, IsFlexWellFormed, IsKeptPool}
-use Rattle.rlsf_model.specs.Growth.{behind, growth_came, longer}
+use Rattle.rlsf_model.specs.Growth.{growth_came, longer}
 use Rattle.rlsf_model.specs.Insert.{Appends, IsNext}
 use Rattle.rlsf_model.specs.Lists.{IsIn}
 use Rattle.rlsf_model.specs.Note.{grow}
@@ -27,6 +27,7 @@ use Rattle.rlsf_model.specs.WellFormed.{coverage, itself, IsWellFormed}
 use Rattle.rlsf_model.proofs.FlexGrowths.{behind_next, grown_keeps, housed_before, is_longer, old_pools}
 use Rattle.rlsf_model.proofs.RangesInChunks.{AreOutstanding-more, AreOutstanding-rest, coverage-in, coverage-none}
 use Rattle.rlsf_model.proofs.TakenPools.{appended_pool, IsTaken, pool_size_is}
+use Rattle.rlsf_model.proofs.Names.{behind}
 use Rattle.rlsf_flex.proofs.Frames.{Footers-kept, HasSpareFooter, footer_ends, outstanding_in, range_of-same, spare_footer, spare_here}
 use Rattle.rlsf_flex.proofs.Outcomes.{FlexStandsFor-answered}
 use Rattle.rlsf_flex.proofs.OutsideNow.{KeepsOutsideNow-footed, KeepsOutsideNow-spare, KeepsOutsideNow-then}
@@ -84,7 +85,7 @@ module _ {S : Type 0} {fl_bits sl_bits fllen sllen e : ℕ} (valid : IsValid fl_
   Grew-taken t n step =
       let (room, whole, short) = pool_size_is fl_bits sl_bits fllen sllen e valid c.size in
       let (taken, pool) =
-      appended_pool fllen sllen e (range_of v.memory) v.state.machine t (behind k len) n c.before.machine.well_formed (Grew-next v.memory (SamePlace-refl v.memory)) room whole
+      appended_pool fllen sllen e (range_of v.memory) v.state.machine t (behind k len) n c.before.well_formed.machine (Grew-next v.memory (SamePlace-refl v.memory)) room whole
       short (omega (arith, Grew-longer.0)) step in
       (pool, taken)
 
@@ -116,8 +117,8 @@ module _ {S : Type 0} {fl_bits sl_bits fllen sllen e : ℕ} (valid : IsValid fl_
             spare a (omega (arith, foot.place.0, low)) (omega (arith, foot.place.0, foot.place.1, high)) one two
             ∙ foot.bytes a low high (λ takes from to. none (record { takes_back = takes; came = is_new; newest = now; rest = c.kept.rest; split = refl; from = from; to = to }));
         stands =
-            FlexStandsFor-answered v.source y b (record { machine = t; pools = now ∷ c.kept.rest; kept = Some (record { range = now; len = k.len + n }) }) stands.stands after
-            same c.owed
+            FlexStandsFor-answered v.source y b (record { machine = t; pools = now ∷ c.kept.rest; kept = Some (record { range = now; len = k.len + n }) }) stands.stands.nonzero
+            stands.stands.payloads after same c.owed
             (λ takes. Footers-kept d.memory b.memory v.state.machine t (now ∷ c.kept.rest) spare
             (λ a from one two. out_at-place d.memory b.memory place (foot.place.3 c.whole) a) place.0 place.1
             (λ p i. ((Grew-footers d.memory footed_stands.stands.well_formed foot.place p i).1, spare_here b.memory after p i)) (footers takes));

@@ -2,8 +2,7 @@
 use Rattle.std.proofs.Common.{◌≡◌, ℕ, List, [], refl}
 use Rattle.rlsf_base.specs.declared.memory.range.Range.{Range}
 use Rattle.rlsf_blocks.specs.Spare.{KeepsSpare}
-use Rattle.rlsf_blocks.specs.StandsFor.{contents, StandsFor}
-use Rattle.rlsf_tlsf.specs.Allocator.{Allocator, IsInState, Stands, Steps}
+use Rattle.rlsf_tlsf.specs.Allocator.{Allocator, IsInState, IsStanding, Stands, Steps}
 use Rattle.rlsf_flex.specs.Outside.{KeepsOutside}
 use Rattle.rlsf_flex.specs.SpareBytes.{KeepsSpareButFooter}
 use Rattle.rlsf_flex.specs.StandsFor.{FlexContents, FlexStands, FlexStandsFor, FlexSteps, StepsAlone, allocator_of}
@@ -12,30 +11,30 @@ use Rattle.rlsf_model.specs.Note.{LeadsBy, Note}
 use Rattle.rlsf_model.specs.State.{State}
 use Rattle.rlsf_model.specs.Terms.{Terms}
 
--- the one over pools is in the reference model's state
+-- the reference model's state is well-formed in its memory
+pub inner_stands : {S : Type 0} {fllen sllen : ℕ} {terms : S → Terms} {owes : S → List Range → Type 0} {v : FlexContents S} → FlexStandsFor fllen sllen terms owes v
+    → v.memory.out ≡ [] → IsStanding fllen sllen v.memory v.state.machine
+inner_stands h whole = record { nonzero = h.nonzero; well_formed = h.well_formed.machine; payloads = h.payloads; whole = whole }
+
+-- and the one over pools is in that state
 pub inner_in : {S : Type 0} {fllen sllen : ℕ} {terms : S → Terms} {owes : S → List Range → Type 0} {v : FlexContents S} → FlexStandsFor fllen sllen terms owes v
     → v.memory.out ≡ [] → IsInState fllen sllen (allocator_of v) v.state.machine
-inner_in h whole = record { state = refl; stands = h.machine; whole = whole }
+inner_in h whole = record { state = refl; stands = inner_stands h whole }
 
 -- what a step of the allocator over pools says
 pub opened : {fllen sllen : ℕ} (old new : Allocator) (step : State → Type 0) → Steps fllen sllen old new step
-    → step new.state × StandsFor fllen sllen (contents new.memory new.table) new.state × KeepsSpare old.memory old.state new.memory new.state
+    → step new.state × IsStanding fllen sllen new.memory new.state × KeepsSpare old.memory old.state new.memory new.state
 unfolding Steps Stands
-opened old new step (is, standing, spare) = (is, standing.stands, spare)
-
--- and that no byte is out after it
-pub opened_whole : (fllen sllen : ℕ) (old new : Allocator) (step : State → Type 0) → Steps fllen sllen old new step → new.memory.out ≡ []
-unfolding Steps Stands
-opened_whole fllen sllen old new step (is, standing, spare) = standing.whole
+opened old new step did = did
 
 -- what holds of it
-pub stood : {fllen sllen : ℕ} {v : Allocator} → Stands fllen sllen v → StandsFor fllen sllen (contents v.memory v.table) v.state
+pub stood : {fllen sllen : ℕ} (v : Allocator) → Stands fllen sllen v → IsStanding fllen sllen v.memory v.state
 unfolding Stands
-stood is = is.stands
+stood v is = is
 
-pub stood_at : {fllen sllen : ℕ} {v : Allocator} → StandsFor fllen sllen (contents v.memory v.table) v.state → v.memory.out ≡ [] → Stands fllen sllen v
+pub stood_at : {fllen sllen : ℕ} (v : Allocator) → IsStanding fllen sllen v.memory v.state → Stands fllen sllen v
 unfolding Stands
-stood_at is whole = record { stands = is; whole = whole }
+stood_at v is = is
 
 -- the parts of an allocator over a source represent its state
 pub flex_stood_at : {S : Type 0} {fllen sllen : ℕ} {terms : S → Terms} {owes : S → List Range → Type 0} {v : FlexContents S} → FlexStandsFor fllen sllen terms owes v

@@ -8,11 +8,10 @@ use Rattle.rlsf_flex.specs.Footers.{first_len, first_start}
 use Rattle.rlsf_flex.specs.StandsFor.{flex_contents, FlexStandsFor, kept_of, kept_pool}
 use Rattle.rlsf_flex.specs.Steps.Growth.{kept_len, kept_start}
 use Rattle.rlsf_model.specs.FlexWellFormed.{IsKeptPool, IsNewest}
-use Rattle.rlsf_model.specs.Growth.{keeps}
 use Rattle.rlsf_model.specs.Terms.{Terms}
 
 -- where ranges are returned, a pool is kept
-pub keeps-dealloc : (t : Terms) → t.dealloc ≡ true → keeps t ≡ true
+pub keeps-dealloc : (t : Terms) → t.dealloc ≡ true → (t.dealloc || t.grow) ≡ true
 keeps-dealloc t takes = ap (λ b. b || t.grow) takes
 
 -- a pool that is kept or not, as contracts see it
@@ -21,7 +20,7 @@ kept_of-then_some true p = refl
 kept_of-then_some false p = refl
 
 -- the next footer names the newest range
-pub words-first : (t : Terms) (kept : Option Pool) (pools chunks : List Range) → IsNewest t (kept_of kept) pools chunks → keeps t ≡ true
+pub words-first : (t : Terms) (kept : Option Pool) (pools chunks : List Range) → IsNewest t (kept_of kept) pools chunks → (t.dealloc || t.grow) ≡ true
     → (kept_start kept ≡ first_start pools) × (kept_len kept ≡ first_len pools)
 words-first t None pools chunks is keep = (sym (ap first_start (is keep)), sym (ap first_len (is keep)))
 words-first t (Some k) pools chunks is keep = (sym (ap first_start is.split), sym (ap first_len is.split))

@@ -14,7 +14,6 @@ pub mod Heaps
 pub mod InnerAllocator
 pub mod Kept
 pub mod KeptPayloads
-pub mod Loans
 pub mod Moves
 pub mod NewRanges
 pub mod NewestRange

@@ -1,4 +1,5 @@
 -- A payload moves into a block that is allocated for it: its bytes are copied there, and its old block is deallocated.
+use Rattle.std.specs.Prelude.{◌++◌}
 use Rattle.std.proofs.Common.{◌≡◌, ℕ, ◌≤◌, List, Some, length, length-drop, min, take, drop, arith, inl, refl, sym, ◌∙◌, ap, subst}
 use Rattle.std.proofs.lemmas.List.{length-append, take_all, take_at}
 use Rattle.rlsf_base.specs.declared.memory.range.Range.{Range}
@@ -11,7 +12,7 @@ use Rattle.rlsf_model.specs.Callers.{bytes_at}
 use Rattle.rlsf_model.specs.Reallocate.{Keeps, MovesAway}
 use Rattle.rlsf_model.specs.Release.{Deallocates}
 use Rattle.rlsf_model.specs.Run.{Fills, allocate, deallocate, fill}
-use Rattle.rlsf_model.specs.State.{State, Used, usable, with_front, Holds}
+use Rattle.rlsf_model.specs.State.{State, Used, usable, Holds}
 use Rattle.rlsf_model.specs.WellFormed.{IsWellFormed}
 use Rattle.rlsf_model.proofs.CallerWords.{bytes_at-held}
 use Rattle.rlsf_model.proofs.Changes.{Holds-unique}
@@ -20,26 +21,26 @@ use Rattle.rlsf_blocks.proofs.RepresentedStates.SpareBytes.{KeepsSpare-trans}
 use Rattle.rlsf_flex.proofs.Places.{SamePlace-then}
 
 -- a list with the whole of a shorter one in front keeps it
-pub Keeps-front : (n : ℕ) (old new : List ℕ) → length old ≡ n → n ≤ length new → Keeps old (with_front n old new)
+pub Keeps-front : (n : ℕ) (old new : List ℕ) → length old ≡ n → n ≤ length new → Keeps old (take n old ++ drop n new)
 Keeps-front n old new is short =
     let whole : take n old ≡ old = take_all n old (omega (arith, is)) in
     let front : length (take n old) ≡ n = ap length whole ∙ is in
-    let long : n ≤ length (with_front n old new) = omega (arith, length-append (take n old) (drop n new), front) in
-    let least : min (length old) (length (with_front n old new)) ≡ n = omega (arith, is, long) in
-    subst (λ k. take k (with_front n old new) ≡ take k old) (sym least) (take_at (take n old) (drop n new) n front)
+    let long : n ≤ length (take n old ++ drop n new) = omega (arith, length-append (take n old) (drop n new), front) in
+    let least : min (length old) (length (take n old ++ drop n new)) ≡ n = omega (arith, is, long) in
+    subst (λ k. take k (take n old ++ drop n new) ≡ take k old) (sym least) (take_at (take n old) (drop n new) n front)
 
 -- and is as long as it was
-pub length-front : (n : ℕ) (old new : List ℕ) → length old ≡ n → n ≤ length new → length (with_front n old new) ≡ length new
+pub length-front : (n : ℕ) (old new : List ℕ) → length old ≡ n → n ≤ length new → length (take n old ++ drop n new) ≡ length new
 length-front n old new is short =
     let front : length (take n old) ≡ n = ap length (take_all n old (omega (arith, is))) ∙ is in
     omega (arith, length-append (take n old) (drop n new), length-drop n new, front, short)
 
 -- the bytes that were copied are those of the two payloads
 pub Fills-copied : {fllen sllen : ℕ} {memory : Range} {s t : State} → IsWellFormed fllen sllen memory s → (from to len : ℕ) (x y : Used) → Holds s from x → Holds s to y
-    → Fills s to (with_front len (bytes_at s from) (bytes_at s to)) t
-    → Fills s to (with_front len x.bytes y.bytes) t
+    → Fills s to (take len (bytes_at s from) ++ drop len (bytes_at s to)) t
+    → Fills s to (take len x.bytes ++ drop len y.bytes) t
 Fills-copied {s = s} {t = t} w from to len x y source target =
-    subst (λ (l : List ℕ). Fills s to l t) (λ i. with_front len (bytes_at-held w from x source i) (bytes_at-held w to y target i))
+    subst (λ (l : List ℕ). Fills s to l t) (λ i. (take len (bytes_at-held w from x source i) ++ drop len (bytes_at-held w to y target i)))
 
 module _ {fllen sllen : ℕ} {v w : Allocator} {s t : State} (stands : IsInState fllen sllen v s) (addr : ℕ) (u : Used) (holds : Holds s addr u) (size align to : ℕ)
     (is : u.align ≡ align) (short : (usable u).len ≤ size)
@@ -84,10 +85,10 @@ module _ {fllen sllen : ℕ} {v w : Allocator} {s t : State} (stands : IsInState
     }
 
   -- then the old block was deallocated
-  module _ (x y : Allocator) (r q : State) (fills : Fills t to (with_front (usable u).len u.bytes step.bytes) r) (gone : Deallocates r addr q) where
+  module _ (x y : Allocator) (r q : State) (fills : Fills t to (take (usable u).len u.bytes ++ drop (usable u).len step.bytes) r) (gone : Deallocates r addr q) where
     pub MovesAway-copied : MovesAway sllen s u size to q
     MovesAway-copied =
-        let bytes = with_front (usable u).len u.bytes step.bytes in
+        let bytes = (take (usable u).len u.bytes ++ drop (usable u).len step.bytes) in
         record {
           meanwhile = r;
           allocated = subst (λ a. Allocates sllen s size a (Some to) r) (sym is) (Places-filled bytes r fills);
@@ -104,4 +105,5 @@ module _ {fllen sllen : ℕ} {v w : Allocator} {s t : State} (stands : IsInState
         → KeepsSpare v.memory s y.memory q
     KeepsSpare-copied first second one two three =
         KeepsSpare-trans fllen sllen v.memory x.memory y.memory s r q (deallocate addr) (λ bad. bad) (SamePlace-then v.memory w.memory x.memory first second) gone
-        (KeepsSpare-trans fllen sllen v.memory w.memory x.memory s t r (fill to (with_front (usable u).len u.bytes step.bytes)) (λ bad. bad) first fills one two) three
+        (KeepsSpare-trans fllen sllen v.memory w.memory x.memory s t r (fill to (take (usable u).len u.bytes ++ drop (usable u).len step.bytes))
+        (λ bad. bad) first fills one two) three

@@ -1,5 +1,5 @@
 -- A new range that came is inserted, over plain values.
-use Rattle.std.proofs.Common.{◌≡◌, ℕ, ◌^◌, ◌<◌, ◌≤◌, true, List, [], ◌∷◌, length, Option, Some, arith, refl, sym, ◌∙◌, ap, subst, inl, inr}
+use Rattle.std.proofs.Common.{◌≡◌, ℕ, ◌^◌, ◌<◌, ◌≤◌, true, List, [], ◌∷◌, length, Option, Some, arith, refl, sym, ◌∙◌, ap, subst, inl, inr, ◌||◌}
 use Rattle.std.specs.Bool.{then_some}
 use Rattle.std.proofs.lemmas.Option.{same_Some}
 use Rattle.rlsf_base.specs.declared.memory.range.Range.{Range}
@@ -16,7 +16,7 @@ use Rattle.rlsf_flex.specs.StandsFor.{FlexContents, FlexStandsFor, kept_of}
 use Rattle.rlsf_flex.specs.Steps.Growth.{kept_len, kept_start, Took}
 use Rattle.rlsf_model.specs.FlexState.{KeptPool}
 use Rattle.rlsf_model.specs.FlexWellFormed.{IsFlexWellFormed, IsNewest}
-use Rattle.rlsf_model.specs.Growth.{range_came, keeps, range_length}
+use Rattle.rlsf_model.specs.Growth.{range_came, range_length}
 use Rattle.rlsf_model.specs.Insert.{Inserts}
 use Rattle.rlsf_model.specs.Lists.{IsIn}
 use Rattle.rlsf_model.specs.PoolLength.{HasFreePool, IsPoolSize}
@@ -53,7 +53,7 @@ module _ {S : Type 0} {fl_bits sl_bits fllen sllen e : ℕ} (valid : IsValid fl_
 
   -- then the state is well-formed
   Came-well_formed : (m : Space) (t : State) (n : ℕ) (later : Option KeptPool) → Inserts fllen v.state.machine r (Some n) t → SamePlace v.memory m
-      → later ≡ then_some (keeps (terms v.source)) (record { range = r; len = n })
+      → later ≡ then_some ((terms v.source).dealloc || (terms v.source).grow) (record { range = r; len = n })
       → IsFlexWellFormed fllen sllen (range_of m) (terms v.source) (record { machine = t; pools = r ∷ v.state.pools; kept = later })
   Came-well_formed m t n later step place is =
       subst (λ p. IsFlexWellFormed fllen sllen p (terms v.source) (record { machine = t; pools = r ∷ v.state.pools; kept = later })) (range_of-same v.memory m place.0 place.1)
@@ -71,7 +71,7 @@ module _ {S : Type 0} {fl_bits sl_bits fllen sllen e : ℕ} (valid : IsValid fl_
   pub Came-took : (b d : Allocator) (t : State) (taken : Option ℕ) (kept : Option Pool) (later : Option KeptPool) → terms y ≡ terms v.source → v.state.kept ≡ kept_of kept
       → Inserts fllen v.state.machine r taken t → IsInState fllen sllen b t → KeepsSpare v.memory v.state.machine b.memory t → SamePlace v.memory b.memory
       → IsInState fllen sllen d t → IsFooted (terms v.source).dealloc b.memory d.memory r (kept_start kept) (kept_len kept)
-      → ((n : ℕ) → taken ≡ Some n → later ≡ then_some (keeps (terms v.source)) (record { range = r; len = n }))
+      → ((n : ℕ) → taken ≡ Some n → later ≡ then_some ((terms v.source).dealloc || (terms v.source).grow) (record { range = r; len = n }))
       → Took fllen sllen terms owes v (contents_at d y (record { machine = t; pools = r ∷ v.state.pools; kept = later })) e (range_came r)
   Came-took b d t taken kept later same was step stands spare place footed_stands foot told =
       let (n, is, is_taken, pool) = Came-taken t taken step in
@@ -86,7 +86,9 @@ module _ {S : Type 0} {fl_bits sl_bits fllen sllen e : ℕ} (valid : IsValid fl_
             foot.bytes a (omega (arith, place.0, low)) (omega (arith, place.0, place.1, high))
             (λ takes from to. none (record { takes_back = takes; came = λ e. omega (arith, ap length e); newest = r; rest = v.state.pools; split = refl; from = from; to = to }))
             ∙ spare a low high one two;
-        stands = FlexStandsFor-answered v.source y d (record { machine = t; pools = r ∷ v.state.pools; kept = later }) footed_stands.stands after same c.owed (footers middle);
+        stands =
+            FlexStandsFor-answered v.source y d (record { machine = t; pools = r ∷ v.state.pools; kept = later }) footed_stands.stands.nonzero footed_stands.stands.payloads
+            after same c.owed (footers middle);
         room = λ more. pool;
       }
     where

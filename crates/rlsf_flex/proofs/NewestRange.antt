@@ -6,8 +6,7 @@ use Rattle.rlsf_base.specs.Range.{end_of, LiesIn}
 use Rattle.rlsf_base.specs.Space.{IsWord, range_of, SamePlace}
 use Rattle.rlsf_blocks.specs.Blocks.{walked}
 use Rattle.rlsf_blocks.specs.Spare.{KeepsSpare}
-use Rattle.rlsf_blocks.specs.StandsFor.{contents, StandsFor}
-use Rattle.rlsf_tlsf.specs.Allocator.{Allocator}
+use Rattle.rlsf_tlsf.specs.Allocator.{Allocator, IsStanding}
 use Rattle.rlsf_flex.specs.declared.pool.Pool.{Pool}
 use Rattle.rlsf_flex.specs.Footers.{Footers, first, footer_of}
 use Rattle.rlsf_flex.specs.StandsFor.{FlexStandsFor, flex_contents, kept_of, kept_pool}
@@ -74,11 +73,11 @@ module _ {S : Type 0} {fllen sllen : ℕ} {terms : S → Terms} {owes : S → Li
   pub newest_pool : IsPool a.state pool.range pool.len
   newest_pool =
       let (len, pooled) = v.well_formed.pooled pool.range is_newest in
-      subst (IsPool a.state pool.range) (IsPool-kept (terms x) (kept_pool pool) a.state ranges len (λ c i. (v.machine.well_formed.chunks c i).has_room) known pooled) pooled
+      subst (IsPool a.state pool.range) (IsPool-kept (terms x) (kept_pool pool) a.state ranges len (λ c i. (v.well_formed.machine.chunks c i).has_room) known pooled) pooled
 
   -- it is idle where its row is
   pub newest_idle : IsIdle a.state (walked (row_of pool.range pool.len)) → IsIdle a.state pool.range
-  newest_idle idle = idle_range v.machine.well_formed pool.range pool.len newest_pool (λ c b i low high from to.
+  newest_idle idle = idle_range v.well_formed.machine pool.range pool.len newest_pool (λ c b i low high from to.
       let (p, j, begins, ends) = v.well_formed.housed c i in
       let same : p ≡ pool.range =
       coverage-unique itself p pool.range ranges b (v.well_formed.pools.disjoint b) j is_newest (covers-inside p b (omega arith) (omega arith))
@@ -88,7 +87,7 @@ module _ {S : Type 0} {fllen sllen : ℕ} {terms : S → Terms} {owes : S → Li
 
   -- and holds a used block where the row does
   pub newest_held : (IsIdle a.state (walked (row_of pool.range pool.len)) → ⊥) → IsNewestHeld a.state ranges
-  newest_held some = subst (IsNewestHeld a.state) (sym newest_first) (λ idle. some (idle_row v.machine.well_formed pool.range pool.len newest_pool idle))
+  newest_held some = subst (IsNewestHeld a.state) (sym newest_first) (λ idle. some (idle_row v.well_formed.machine pool.range pool.len newest_pool idle))
 
   -- its footer can be read
   pub newest_ends : (16 ≤ end_of pool.range) × (end_of pool.range < 2 ^ 64)
@@ -103,12 +102,12 @@ module _ {S : Type 0} {fllen sllen : ℕ} {terms : S → Terms} {owes : S → Li
   -- no other range begins at the address 0
   pub others_start : (p : Range) → IsIn p others → 0 < p.start
   others_start p i =
-      let nonzero = v.machine.nonzero in
+      let nonzero = v.nonzero in
       omega (arith, nonzero, (outstanding_in a.memory (terms x).space ranges v.well_formed.space v.well_formed.pools).in_space p (is_other p i))
 
   module _ (idle : IsIdle a.state (walked (row_of pool.range pool.len))) (b : Allocator) (took : b.state ≡ removed (walked (row_of pool.range pool.len)) a.state) where
     pub newest_removed : b.state ≡ removed pool.range a.state
-    newest_removed = took ∙ removed-row v.machine.well_formed pool.range pool.len newest_pool
+    newest_removed = took ∙ removed-row v.well_formed.machine pool.range pool.len newest_pool
 
     over : IsOver fllen sllen (range_of a.memory) (terms x).space b.state others
     over = subst (λ (s : State). IsOver fllen sllen (range_of a.memory) (terms x).space s others) (sym newest_removed)
@@ -117,9 +116,9 @@ module _ {S : Type 0} {fllen sllen : ℕ} {terms : S → Terms} {owes : S → Li
 
     -- the one that is the newest then has a pool
     pub next_pool : IfSome (first others) (λ r. HasRoomForChunk r × ((len : ℕ) × IsPool b.state r len))
-    next_pool = first_pool b.state others v.well_formed.space v.machine.well_formed.addressable over
+    next_pool = first_pool b.state others v.well_formed.space v.well_formed.machine.addressable over
 
-    module _ (stands : StandsFor fllen sllen (contents b.memory b.table) b.state) (spare : KeepsSpare a.memory a.state b.memory b.state) (place : SamePlace a.memory b.memory)
+    module _ (stands : IsStanding fllen sllen b.memory b.state) (spare : KeepsSpare a.memory a.state b.memory b.state) (place : SamePlace a.memory b.memory)
         (none : a.memory.out ≡ []) (takes : (terms x).dealloc ≡ true)
         (later : Option Pool) (told : MatchOption (first others) (later ≡ None)
         (λ r. (len : ℕ) → IsPool b.state r len → later ≡ Some (record { range = r; len = len }))) where
@@ -152,7 +151,7 @@ module _ {S : Type 0} {fllen sllen : ℕ} {terms : S → Terms} {owes : S → Li
             pools = refl;
             place = place;
             spare = spare;
-            stands = FlexStandsFor-answered x y b after stands left same owed
+            stands = FlexStandsFor-answered x y b after stands.nonzero stands.payloads left same owed
                 (λ back. Footers-kept a.memory b.memory a.state b.state others spare (λ c from one two. out_at-place a.memory b.memory place none c) place.0 place.1
                 (λ p i. (spare_here a.memory v.well_formed p (is_other p i), spare_here b.memory left p i)) (newest_footers back).2);
           } in

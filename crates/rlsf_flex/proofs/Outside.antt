@@ -2,6 +2,7 @@
 use Rattle.std.proofs.Common.{◌≡◌, ℕ, ◌+◌, cond, Bool, true, false, true≢false, List, [], ◌∷◌, ◌++◌, Option, Some, None, arith, refl, sym, ◌∙◌, ap}
 use Rattle.std.proofs.Common.{subst}
 use Rattle.std.specs.Option.{is_some}
+use Rattle.std.specs.Bool.{then_some}
 use Rattle.std.proofs.lemmas.Option.{none-some, same_Some}
 use Rattle.rlsf_base.specs.declared.memory.range.Range.{Range}
 use Rattle.rlsf_base.specs.Space.{Space, SamePlace}
@@ -10,13 +11,14 @@ use Rattle.rlsf_flex.specs.Outside.{IsOutside, KeepsOutside, NothingGoesBack, ev
 use Rattle.rlsf_flex.specs.Steps.Outside.{KeepsOutsideNow}
 use Rattle.rlsf_model.specs.FlexState.{FlexState, KeptPool}
 use Rattle.rlsf_model.specs.FlexWellFormed.{AreHoused, IsNewest}
-use Rattle.rlsf_model.specs.Growth.{Extends, IsPossible, Outcome, range_came, growth_came, growth_note, notes_of, questions, questions_kept, range_note, refused}
+use Rattle.rlsf_model.specs.Growth.{Extends, IsPossible, Outcome, range_came, growth_came, notes_of, questions, refused}
 use Rattle.rlsf_model.specs.Growth.{TakesIn}
 use Rattle.rlsf_model.specs.Note.{Note, dealloc}
 use Rattle.rlsf_model.specs.State.{State}
 use Rattle.rlsf_model.specs.Terms.{Terms, with_len}
 use Rattle.rlsf_model.specs.WellFormed.{coverage, itself}
 use Rattle.rlsf_model.proofs.Coverage.{IsIn-append_left, IsIn-append_right, coverage-append}
+use Rattle.rlsf_model.proofs.Names.{fitting, growth_note, range_note}
 use Rattle.rlsf_flex.proofs.OutsideNow.{KeepsOutsideNow-spare}
 use Rattle.rlsf_flex.proofs.Places.{SamePlace-refl, SamePlace-then}
 
@@ -109,13 +111,13 @@ handed-grown None len some = absurd (true≢false (sym some))
 handed-grown (Some (r, n)) len some = (r, n, refl, refl)
 
 -- growth is asked of the kept range
-growth_of_kept : (t : Terms) (k : KeptPool) (e : ℕ) (o : Option ℕ) (r : Range) (n : ℕ) → (questions_kept t k e o).growth ≡ Some (r, n) → r ≡ k.range
-growth_of_kept t k e None r n is = absurd (none-some (r, n) is)
-growth_of_kept t k e (Some m) r n is = go t.grow is
+growth_of_kept : (t : Terms) (k : KeptPool) (e : ℕ) (b : Bool) (r : Range) (n : ℕ) → (fitting t k e b).growth ≡ Some (r, n) → r ≡ k.range
+growth_of_kept t k e false r n is = absurd (none-some (r, n) is)
+growth_of_kept t k e true r n is = go t.grow is
   where
-    go : (b : Bool) → (let asked : Option (Range × ℕ) = cond b (Some (k.range, m)) None in asked) ≡ Some (r, n) → r ≡ k.range
+    go : (b : Bool) → then_some {T = Range × ℕ} b (k.range, k.len + e) ≡ Some (r, n) → r ≡ k.range
     go false is = absurd (none-some (r, n) is)
-    go true is = ap (λ p. p.0) (sym (same_Some (k.range, m) (r, n) is))
+    go true is = ap (λ p. p.0) (sym (same_Some (k.range, k.len + e) (r, n) is))
 
 -- the ranges after some answers have the addresses of those before and of what was provided, and no others
 abbrev IsKnown : List Range → List Range → List Note → Type 0

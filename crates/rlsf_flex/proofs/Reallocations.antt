@@ -2,6 +2,8 @@
 use Rattle.std.proofs.Common.{◌≡◌, ◌≢◌, ℕ, ◌<◌, Bool, true, List, [], Option, Some, None, IfNone, IfSome, refl, sym, ◌∙◌, ap, subst, inl, inr}
 use Rattle.std.proofs.lemmas.Option.{none-some}
 use Rattle.std.specs.declared.num.NonZeroUsize.{NonZeroUsize}
+use Rattle.std.specs.Option.{option_or}
+use Rattle.std.specs.Prelude.{None}
 use Rattle.rlsf_base.specs.Addr.{at, reply}
 use Rattle.rlsf_base.specs.declared.memory.range.Range.{Range}
 use Rattle.rlsf_model_sizes.specs.SizeClass.{IsValid}
@@ -17,12 +19,12 @@ use Rattle.rlsf_flex.specs.Steps.Growth.{Extended, MovesPayload}
 use Rattle.rlsf_model.specs.Allocate.{Allocates}
 use Rattle.rlsf_model.specs.Callers.{align_at, bytes_at}
 use Rattle.rlsf_model.specs.FlexAllocate.{Asks, FlexAllocates}
-use Rattle.rlsf_model.specs.FlexReallocate.{FlexReallocates, IsStuck}
+use Rattle.rlsf_model.specs.FlexReallocate.{FlexReallocates}
 use Rattle.rlsf_model.specs.FlexState.{FlexState, with_machine}
 use Rattle.rlsf_model.specs.Growth.{refused}
 use Rattle.rlsf_model.specs.Lists.{IsIn}
 use Rattle.rlsf_model.specs.Note.{Note}
-use Rattle.rlsf_model.specs.Reallocate.{Keeps, MovesAway, Plan, Reallocates, ReallocatesBy, in_place, into_next, into_previous, or_else, plan}
+use Rattle.rlsf_model.specs.Reallocate.{Keeps, MovesAway, Plan, Reallocates, ReallocatesBy, in_place, into_next, into_previous, plan}
 use Rattle.rlsf_model.specs.State.{State, Used, usable, Holds, IsLive}
 use Rattle.rlsf_model.specs.Terms.{Terms}
 use Rattle.rlsf_model.specs.WellFormed.{IsWellFormed}
@@ -40,15 +42,21 @@ use Rattle.rlsf_flex.proofs.SpareBytes.{KeepsSpareButFooter-all, KeepsSpareButFo
 use Rattle.rlsf_flex.proofs.InnerAllocator.{opened, stood}
 
 -- nor can the first two
-first_two-none : (o q r : Option Plan) → or_else o (or_else q r) ≡ None → or_else o q ≡ None
+first_two-none : (o q r : Option Plan) → option_or o (option_or q r) ≡ None → option_or o q ≡ None
 first_two-none None q r none = or_else-none_first q r none
 first_two-none (Some p) q r none = none
 
+-- the used block at the address can't get the size with the free ranges that there are beside it
+pub record IsStuck (s : State) (addr size : ℕ) (u : Used) : Type 0 where
+  pub holds : Holds s addr u
+  pub no_plan : plan s u size ≡ None
+
 -- a block that can't have the size neither stays where it is nor takes from the block behind
-pub stuck_moves : {fllen sllen : ℕ} {memory : Range} {s : State} → IsWellFormed fllen sllen memory s → (addr size : ℕ) (u v : Used) (p : Plan) → IsStuck s addr size v
-    → Holds s addr u → or_else (in_place s u size) (into_next s u size) ≡ Some p → ⊥
+pub stuck_moves : {fllen sllen : ℕ} {memory : Range} {s : State} → IsWellFormed fllen sllen memory s → (addr size : ℕ) (u v : Used) (p : Plan)
+    → IsStuck s addr size v
+    → Holds s addr u → option_or (in_place s u size) (into_next s u size) ≡ Some p → ⊥
 stuck_moves {s = s} w addr size u v p stuck holds some =
-    let here = subst (λ x. or_else (in_place s x size) (into_next s x size) ≡ Some p) (Holds-unique w addr u v holds stuck.holds) some in
+    let here = subst (λ x. option_or (in_place s x size) (into_next s x size) ≡ Some p) (Holds-unique w addr u v holds stuck.holds) some in
     none-some p (sym (first_two-none (in_place s v size) (into_next s v size) (into_previous s v size) stuck.no_plan) ∙ here)
 
 -- a block that can't have the size has fewer usable bytes
@@ -98,7 +106,7 @@ pub refused_too : {S : Type 0} (fllen sllen : ℕ) (terms : S → Terms) (owes :
 unfolding FlexSteps
 refused_too fllen sllen terms owes leads v after addr size align {u} stuck is (notes, step, leads_by, answers, outside, stands, spare) = (
   notes,
-  record { block = u; stuck = stuck; asks = subst (λ a. Asks fllen sllen (terms v.source) v.state size a refused notes after.state) (sym is) step },
+  record { block = u; holds = stuck.holds; no_plan = stuck.no_plan; asks = subst (λ a. Asks fllen sllen (terms v.source) v.state size a refused notes after.state) (sym is) step },
   leads_by,
   answers,
   outside,
@@ -136,7 +144,7 @@ module _ {S : Type 0} {fllen sllen : ℕ} {terms : S → Terms} {owes : S → Li
         let step = (opened _ _ _ did).0 in
         let u = step.block in
         let (none, full) = refused_by sllen size v.state.machine new.state u (plan v.state.machine u size) step.step in
-        let aligned : u.align ≡ align = ap (λ (y : Used). y.align) (Holds-unique h.machine.well_formed addr u x step.holds holds) ∙ is in (
+        let aligned : u.align ≡ align = ap (λ (y : Used). y.align) (Holds-unique h.well_formed.machine addr u x step.holds holds) ∙ is in (
           u,
           record { holds = step.holds; no_plan = none },
           aligned,
@@ -151,7 +159,8 @@ module _ {S : Type 0} {fllen sllen : ℕ} {terms : S → Terms} {owes : S → Li
         )
 
   -- there is no room, and the source is asked
-  module _ (leads : S → Note → S → Type 0) (v : FlexContents S) {u : Used} (stuck : IsStuck v.state.machine addr size u) (is : u.align ≡ align) where
+  module _ (leads : S → Note → S → Type 0) (v : FlexContents S) {u : Used}
+      (stuck : IsStuck v.state.machine addr size u) (is : u.align ≡ align) where
     module _ {w : FlexContents S} (tried : Tried fllen sllen terms owes size align v w)
         {e : ℕ} (wanted : pool_size_to_contain_allocation fllen sllen size align ≡ Some e) {after : FlexContents S} {more : Bool}
         (h : Extended fllen sllen terms owes leads w after e more) where
@@ -165,7 +174,7 @@ module _ {S : Type 0} {fllen sllen : ℕ} {terms : S → Terms} {owes : S → Li
           (moved : MovesPayload fllen sllen (allocator_of after) last addr size to) where
         moves : MovesAway sllen after.state.machine u size to last.state
         moves =
-            subst (λ x. MovesAway sllen after.state.machine x size to last.state) (Holds-unique h.stands.machine.well_formed addr moved.block u moved.holds Holds-came) moved.moves
+            subst (λ x. MovesAway sllen after.state.machine x size to last.state) (Holds-unique h.stands.well_formed.machine addr moved.block u moved.holds Holds-came) moved.moves
 
         -- no chunk has changed
         moved_chunks : last.state.chunks ≡ after.state.machine.chunks
@@ -174,7 +183,7 @@ module _ {S : Type 0} {fllen sllen : ℕ} {terms : S → Terms} {owes : S → Li
             ∙ chunks-allocated sllen after.state.machine moves.meanwhile size u.align (Some to) moves.allocated
 
         pub moved_stands : FlexStandsFor fllen sllen terms owes (with_allocator after last)
-        moved_stands = stands_stepped h.stands last (stood moved.stands) moved_chunks moved.spare place ((asked_outside size align tried wanted h).place.3 whole)
+        moved_stands = stands_stepped h.stands last (stood _ moved.stands) moved_chunks moved.spare place ((asked_outside size align tried wanted h).place.3 whole)
 
         -- the payload moved into what came
         reallocated_in_more : FlexSteps fllen sllen terms owes leads v (with_allocator after last) (FlexReallocates fllen sllen (terms v.source) v.state addr size (Some to))
@@ -183,14 +192,15 @@ module _ {S : Type 0} {fllen sllen : ℕ} {terms : S → Terms} {owes : S → Li
           asked.notes,
           inr (record {
             block = u;
-            stuck = stuck;
+            holds = stuck.holds;
+            no_plan = stuck.no_plan;
             outcome = asked.outcome;
             meanwhile = after.state;
             asks = subst (λ k. Asks fllen sllen (terms v.source) v.state size k asked.outcome asked.notes after.state) (sym is) (asks size align tried wanted h);
             more = sym asked.came ∙ came;
             machine = last.state;
             moves = moves;
-            elsewhere = λ at. moved_elsewhere h.stands.machine.well_formed u Holds-came.0 size to last.state moves (at ∙ sym Holds-came.1);
+            elsewhere = λ at. moved_elsewhere h.stands.well_formed.machine u Holds-came.0 size to last.state moves (at ∙ sym Holds-came.1);
             after = refl;
           }),
           asked.leads_by,

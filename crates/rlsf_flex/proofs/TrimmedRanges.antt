@@ -121,7 +121,7 @@ module _ {S : Type 0} {fllen sllen : ℕ} {terms : S → Terms} {owes : S → Li
         let outstanding = outstanding_in v.memory (terms v.source).space v.state.pools stands.well_formed.space stands.well_formed.pools in
         let few =
         length-disjoint v.state.pools v.memory.start (length v.memory.bytes) (λ p i. (omega (arith, outstanding.long p i), outstanding.in_space p i)) outstanding.disjoint in
-        let short = stands.machine.well_formed.addressable in
+        let short = stands.well_formed.machine.addressable in
         omega (arith, few, short, h.counted, ap length h.split, length-append h.gone w.state.pools)
 
     -- ---- as a step of the reference model
@@ -143,7 +143,7 @@ module _ {S : Type 0} {fllen sllen : ℕ} {terms : S → Terms} {owes : S → Li
             noted = refl;
             machine = h.machine;
             pools = refl;
-            kept = kept_to_last (terms v.source) w.state.machine h.stands.machine.well_formed takes w.state.kept w.state.pools newest h.stands.well_formed.pooled;
+            kept = kept_to_last (terms v.source) w.state.machine h.stands.well_formed.machine takes w.state.kept w.state.pools newest h.stands.well_formed.pooled;
           }
 
       outside : KeepsOutside v.memory v.state.pools (map dealloc h.gone) w.memory w.state.pools

@@ -34,8 +34,10 @@ module _ {S : Type 0} (terms : S → Terms) (owes : S → List Range → Type 0)
   flex_states_are_well_formed fllen sllen v stands = (flex_stood v stands).well_formed
 
   pub flex_words_read_no_payload : FlexWordsReadNoPayload terms owes
-  flex_words_read_no_payload fllen sllen v n h differs =
-      stands_kept h (record { memory = n; table = v.table; state = read_from n v.state.machine })
-      (words_read_no_payload fllen sllen v.memory n v.table v.state.machine h.machine differs) refl
-      (λ a low high spare again. differs.bytes a low (spare_unlent h.machine.well_formed a spare))
-      (λ a low spare again. differs.out a low (spare_unlent h.machine.well_formed a spare)) differs.start differs.length
+  flex_words_read_no_payload fllen sllen v n words h differs =
+      let again = words_read_no_payload fllen sllen v.memory n v.table v.state.machine words differs in (
+        again,
+        stands_kept h (record { memory = n; table = v.table; state = read_from n v.state.machine }) again.nonzero again.payloads.bytes again.well_formed refl
+            (λ a low high spare both. differs.bytes a low (spare_unlent h.well_formed.machine a spare))
+            (λ a low spare both. differs.out a low (spare_unlent h.well_formed.machine a spare)) differs.start differs.length,
+      )

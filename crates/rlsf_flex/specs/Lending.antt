@@ -15,8 +15,8 @@ use Rattle.rlsf_tlsf.specs.Lending as tlsf
 abbrev pub flex_written : {S : Type 0} → FlexContents S → ℕ → ℕ → List ℕ → FlexContents S
 flex_written v addr len w = with_allocator v (tlsf.written (allocator_of v) addr len w)
 
--- Whatever was left there, chunks, ranges, the kept pool, the source and the memory's place stay. The parts represent the state. Three
--- touches are counted and no copy
+-- Whatever was left there, chunks, ranges, the kept pool, the source and the memory's place stay. The state is well-formed with its
+-- ranges. Three touches are counted and no copy
 abbrev pub FlexLeavesRest : {S : Type 0} → ℕ → ℕ → (S → Terms) → (S → List Range → Type 0) → FlexContents S → FlexContents S → Type 0
 FlexLeavesRest fllen sllen terms owes before after =
     (after.state.machine.chunks ≡ before.state.machine.chunks) × (after.state ≡ with_machine before.state after.state.machine) × (after.source ≡ before.source)

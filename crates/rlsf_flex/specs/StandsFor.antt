@@ -1,13 +1,12 @@
 -- What an allocator over a source represents.
-use Rattle.std.specs.Prelude.{◌≡◌, ℕ, true, List, [], Option}
+use Rattle.std.specs.Prelude.{◌≡◌, ◌<◌, ℕ, true, List, [], Option}
 use Rattle.std.specs.Option.{option_map}
 use Rattle.rlsf_base.specs.declared.memory.range.Range.{Range}
 use Rattle.rlsf_model_sizes.specs.SizeClass.{IsValid}
 use Rattle.rlsf_base.specs.Space.{Space, range_of}
 use Rattle.rlsf_table.specs.Table.{Table}
 use Rattle.rlsf_blocks.specs.Spare.{KeepsSpare}
-use Rattle.rlsf_blocks.specs.StandsFor.{contents, StandsFor}
-use Rattle.rlsf_tlsf.specs.Allocator.{Allocator}
+use Rattle.rlsf_tlsf.specs.Allocator.{Allocator, HasBytesOf}
 use Rattle.rlsf_flex.specs.declared.pool.Pool.{Pool}
 use Rattle.rlsf_flex.specs.Footers.{Footers}
 use Rattle.rlsf_flex.specs.Outside.{KeepsOutside}
@@ -48,10 +47,11 @@ kept_of p = option_map kept_pool p
 abbrev pub flex_contents : {S : Type 0} → Allocator → Option Pool → S → List Range → FlexContents S
 flex_contents t k source ranges = record { memory = t.memory; table = t.table; source = source; state = record { machine = t.state; pools = ranges; kept = kept_of k } }
 
--- Memory and class table represent the reference model's state, which is well-formed with its ranges and its kept pool; the source owes
--- these ranges, and where it takes ranges back, their footers spell them.
+-- The reference model's state is well-formed in the memory, with its ranges and its kept pool. The memory has the bytes of its payloads, and
+-- none at the address 0. The source owes these ranges, and where it takes ranges back, their footers spell them.
 pub record FlexStandsFor {S : Type 0} (fllen sllen : ℕ) (terms : S → Terms) (owes : S → List Range → Type 0) (v : FlexContents S) : Type 0 where
-  pub machine : StandsFor fllen sllen (contents v.memory v.table) v.state.machine
+  pub nonzero : 0 < v.memory.start
+  pub payloads : HasBytesOf v.memory v.state.machine
   pub well_formed : IsFlexWellFormed fllen sllen (range_of v.memory) (terms v.source) v.state
   pub owed : owes v.source v.state.pools
   pub footers : (terms v.source).dealloc ≡ true → Footers v.memory v.state.pools
@@ -62,7 +62,7 @@ pub record IsFlexTlsf {S : Type 0} (fl_bits sl_bits fllen sllen : ℕ) (terms : 
   pub stands : FlexStandsFor fllen sllen terms owes v
   pub whole : v.memory.out ≡ []
 
--- the allocator's parts represent its state
+-- so it is with an allocator's parts
 unfoldable pub FlexStands : {S : Type 0} → ℕ → ℕ → (S → Terms) → (S → List Range → Type 0) → FlexContents S → Type 0
 FlexStands fllen sllen terms owes v = FlexStandsFor fllen sllen terms owes v
 

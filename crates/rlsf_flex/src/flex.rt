@@ -70,12 +70,13 @@ impl<
     const FLLEN: usize,
     const SLLEN: usize,
 > FlexTlsf<S, FLBitmap, SLBitmap, FLLEN, SLLEN> {
+    ghost use Rattle.rlsf_tlsf.specs.Allocator.{IsRepresented};
     ghost use Rattle.rlsf_tlsf.specs.Bounds.{IfWithinBounds, KeepsAllBounds, KeepsBounds};
     ghost use Rattle.rlsf_tlsf.specs.Results.{IsAllocated, IsAllocatedWithZeros, IsDeallocated, IsFilled, IsReallocated, IsResized};
     ghost use Rattle.rlsf_flex.specs.Lending.{FlexLeavesRest, flex_lends_payload, flex_written};
     ghost use Rattle.rlsf_flex.specs.Results.{IsUnchangedButSource, KeepsFlexFrame, KeepsFlexFrameAlone, KeepsFlexFrameCopying};
     ghost use Rattle.rlsf_flex.specs.Results.{KeepsFlexFrameInPlace, KeepsFlexFrameMoving, KeepsFlexFrameOfTrim, SizesFreedRoom, SucceedsUnasked};
-    ghost use Rattle.rlsf_flex.specs.StandsFor.{FillsAlone, FlexStands, FlexSteps, StepsAlone};
+    ghost use Rattle.rlsf_flex.specs.StandsFor.{FillsAlone, FlexStands, FlexSteps, StepsAlone, allocator_of};
 
     /// Creates an allocator over the memory and a source of ranges of it. It asks for nothing yet.
     ///
@@ -122,12 +123,13 @@ impl<
         &self.parts.source
     }
 
-    /// Returns the memory, for reading.
+    /// Returns the memory, for reading. Its words and the class table encode the state (`represented`).
     ///
     /// Completes in constant time.
     pub fn memory_ref(&self) -> &Memory
         ensures memory { result.now ≡ self.now.memory }
         ensures stands { FlexStands FLLEN SLLEN S.terms S.owes self.now }
+        ensures represented { IsRepresented FLLEN SLLEN (allocator_of self.now) }
     {
         self.parts.tlsf.memory_ref()
     }

@@ -1,6 +1,6 @@
 //! Growth: asks a source for more memory, and inserts the memory that comes.
 
-ghost use Rattle.std.specs.Prelude.{◌≡◌, ◌≢◌, ◌≤◌, ◌<◌, ◌+◌, ℕ, [], false, None, Some, IfNone, IfSome, MatchOption, length};
+ghost use Rattle.std.specs.Prelude.{◌≡◌, ◌≢◌, ◌≤◌, ◌<◌, ◌+◌, ◌||◌, ℕ, [], false, None, Some, IfNone, IfSome, MatchOption, length};
 ghost use Rattle.std.specs.Int.NonZero.{non_zero_usize_get};
 ghost use Rattle.rlsf_base.specs.Addr.{at};
 ghost use Rattle.rlsf_model_sizes.specs.SizeClass.{IsValid};
@@ -13,7 +13,7 @@ ghost use Rattle.rlsf_flex.specs.Steps.Growth.{AskedGrowth, AskedRange, Extended
 ghost use Rattle.rlsf_flex.specs.Steps.Parts.{flex_over};
 ghost use Rattle.rlsf_model.specs.Allocate.{Allocates};
 ghost use Rattle.rlsf_model.specs.Callers.{align_at, bytes_at};
-ghost use Rattle.rlsf_model.specs.Growth.{keeps, range_length};
+ghost use Rattle.rlsf_model.specs.Growth.{range_length};
 ghost use Rattle.rlsf_model.specs.PoolLength.{IsPoolSize};
 ghost use Rattle.rlsf_model.specs.Sized.{live_count};
 
@@ -37,7 +37,7 @@ fn words_of(kept: Option<Pool>) -> (usize, usize)
 
 /// Returns whether the newest range is kept.
 fn keeps_pool<S: FlexSource>(source: &S) -> bool
-    ensures { result ≡ keeps (S.terms source.now) }
+    ensures { result ≡ ((S.terms source.now).dealloc || (S.terms source.now).grow) }
 {
     source.supports_dealloc() || source.supports_realloc_inplace_grow()
 }

@@ -16,13 +16,14 @@ use Rattle.rlsf_global.specs.Results.{KeepsLocked, KeepsLockedResizing, KeepsLoc
 use Rattle.rlsf_model.specs.FlexAllocate.{FlexAllocates}
 use Rattle.rlsf_model.specs.FlexReallocate.{FlexReallocates}
 use Rattle.rlsf_model.specs.FlexState.{FlexState}
-use Rattle.rlsf_model.specs.Growth.{Extends, Outcome, Questions, questions, range_came, growth_came, growth_note, notes_of, range_note, refused}
+use Rattle.rlsf_model.specs.Growth.{Extends, Outcome, Questions, questions, range_came, growth_came, notes_of, refused}
 use Rattle.rlsf_model.specs.Lists.{IsIn}
 use Rattle.rlsf_model.specs.Note.{Note, alloc, dealloc, grow}
 use Rattle.rlsf_model.specs.State.{State}
 use Rattle.rlsf_model.specs.Terms.{Terms}
 use Rattle.rlsf_model_global.specs.Cursor.{PageCursor, PageLeads, terms_of}
 use Rattle.rlsf_model_global.specs.Pages.{MayOwe}
+use Rattle.rlsf_model.proofs.Names.{growth_note, range_note}
 
 -- ---- an allocation and a reallocation return no range
 

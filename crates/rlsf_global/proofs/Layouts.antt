@@ -3,21 +3,21 @@ use Rattle.std.proofs.Common.{◌≡◌, ◌≢◌, ℕ, List, Some, None, ◌�
 use Rattle.std.specs.Option.{option_map}
 use Rattle.rlsf_model.specs.Callers.{bytes_at}
 use Rattle.rlsf_model_global.proofs.Maps.{row_at-put_here, row_at-put_other, row_at-without_here, row_at-without_other}
-use Rattle.rlsf_model_global.specs.Heap.{Heap, content_at, layout_at, row_layout}
+use Rattle.rlsf_model_global.specs.Heap.{Heap, content_at, layout_at}
 use Rattle.rlsf_model_global.specs.Rows.{Row, key, put, row_at, without_row}
 
 -- the layout of an address is that of its entry
 pub layout_at-row : (h g : Heap) (a b : ℕ) → row_at a g.asked ≡ row_at b h.asked → layout_at g a ≡ layout_at h b
 unfolding layout_at
-layout_at-row h g a b same = ap (option_map row_layout) same
+layout_at-row h g a b same = ap (option_map (λ (r : Row). r.1)) same
 
 pub layout_at-some : (h : Heap) (a : ℕ) (r : Row) → row_at a h.asked ≡ Some r → layout_at h a ≡ Some r.1
 unfolding layout_at
-layout_at-some h a r there = ap (option_map row_layout) there
+layout_at-some h a r there = ap (option_map (λ (r : Row). r.1)) there
 
 pub layout_at-none : (h : Heap) (a : ℕ) → row_at a h.asked ≡ None → layout_at h a ≡ None
 unfolding layout_at
-layout_at-none h a none = ap (option_map row_layout) none
+layout_at-none h a none = ap (option_map (λ (r : Row). r.1)) none
 
 -- the bytes at an address are those of the model's payload
 pub content_at-bytes : (h g : Heap) (a b : ℕ) → bytes_at g.flex.machine a ≡ bytes_at h.flex.machine b → content_at g a ≡ content_at h b

@@ -1,5 +1,4 @@
 -- Lemmas about the value under the lock: its table, its heap and the steps of its calls.
-pub mod Checks
 mod CodedRows
 pub mod Deallocations
 pub mod Heaps

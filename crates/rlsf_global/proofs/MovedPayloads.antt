@@ -1,8 +1,9 @@
 -- A payload moves into another one, or is resized as the allocator does.
-use Rattle.std.proofs.Common.{◌≡◌, ◌≢◌, ℕ, arith, length, List, Some, None, Ok, refl, sym, ◌∙◌, ap, subst, inl, inr}
+use Rattle.std.proofs.Common.{◌≡◌, ◌≢◌, ℕ, arith, length, List, Some, None, Ok, refl, sym, ◌∙◌, ap, subst, inl, inr, ◌++◌}
 use Rattle.std.proofs.lemmas.Bool.{cases_eq}
 use Rattle.std.proofs.lemmas.Option.{none-some}
 use Rattle.std.specs.declared.num.NonZeroUsize.{NonZeroUsize}
+use Rattle.std.specs.Prelude.{take, drop, true}
 use Rattle.rlsf_base.specs.Addr.{at}
 use Rattle.rlsf_base.specs.Space.{range_of}
 use Rattle.rlsf_base.specs.declared.memory.layout.Layout.{Layout}
@@ -22,11 +23,10 @@ use Rattle.rlsf_model.specs.FlexState.{FlexState, with_machine}
 use Rattle.rlsf_model.specs.Note.{LeadsBy}
 use Rattle.rlsf_model.specs.Release.{Deallocates}
 use Rattle.rlsf_model.specs.Run.{Fills, IsSomeLive, reallocate}
-use Rattle.rlsf_model.specs.State.{with_front}
 use Rattle.rlsf_model.proofs.CallerWords.{SeesFilled, align_at-none, filled_seen}
 use Rattle.rlsf_model.proofs.FlexCallers.{flex_callers_see_map}
 use Rattle.rlsf_model_global.specs.Cursor.{PageCursor, PageLeads, terms_of}
-use Rattle.rlsf_model_global.specs.Moves.{HeapMovesAway, ResizesTo}
+use Rattle.rlsf_model_global.specs.Moves.{HeapMovesAway, ReallocatesTo}
 use Rattle.rlsf_model_global.specs.Rows.{Row, put, row_at, without_row}
 
 -- ---- the table after a move
@@ -51,7 +51,7 @@ module _ (f : FlexContents PageCursor) (rows : List Row) (v : IsLocked f rows) (
 
 module _ (f f' : FlexContents PageCursor) (addr : ℕ) (wanted : Layout) (to : NonZeroUsize)
     (steps : FlexSteps 64 64 terms_of MayOwe PageLeads f f' (FlexReallocates 64 64 (terms_of f.source) f.state addr wanted.size (Some (at to)))) where
-  pub reallocated : (rows : List Row) → ResizesTo (heap_of f rows) addr wanted (Ok to) (heap_of f' (put (to, wanted) (without_row addr rows)))
+  pub reallocated : (rows : List Row) → ReallocatesTo true (heap_of f rows) addr wanted wanted (Ok to) (heap_of f' (put (to, wanted) (without_row addr rows)))
   reallocated rows =
       let (notes, step, led, outside, stands) = flex_opened f f' (FlexReallocates 64 64 (terms_of f.source) f.state addr wanted.size (Some (at to))) steps in
       ((notes, step, led), refl)
@@ -74,14 +74,14 @@ module _ (f f' : FlexContents PageCursor) (addr : ℕ) (wanted : Layout) (to : N
 
 module _ (f m k e : FlexContents PageCursor) (addr keep : ℕ) (wanted : Layout) (to : NonZeroUsize)
     (takes : FlexSteps 64 64 terms_of MayOwe PageLeads f m (FlexAllocates 64 64 (terms_of f.source) f.state wanted.size wanted.align (Some (at to))))
-    (copies : StepsAlone 64 64 terms_of MayOwe m k (Fills m.state.machine (at to) (with_front keep (bytes_at m.state.machine addr) (bytes_at m.state.machine (at to)))))
+    (copies : StepsAlone 64 64 terms_of MayOwe m k (Fills m.state.machine (at to) (take keep (bytes_at m.state.machine addr) ++ drop keep (bytes_at m.state.machine (at to)))))
     (frees : StepsAlone 64 64 terms_of MayOwe k e (Deallocates k.state.machine addr)) where
   pub moved_away : k.source ≡ m.source → e.source ≡ k.source → (rows : List Row)
       → HeapMovesAway (heap_of f rows) addr keep wanted (Ok to) (heap_of e (put (to, wanted) (without_row addr rows)))
   moved_away copy_stays free_stays rows =
       let (notes, step, led, outside, stands) = flex_opened f m (FlexAllocates 64 64 (terms_of f.source) f.state wanted.size wanted.align (Some (at to))) takes in
       let (fills, copied, stands2, spare2) =
-      alone_opened m k (Fills m.state.machine (at to) (with_front keep (bytes_at m.state.machine addr) (bytes_at m.state.machine (at to)))) copies in
+      alone_opened m k (Fills m.state.machine (at to) (take keep (bytes_at m.state.machine addr) ++ drop keep (bytes_at m.state.machine (at to)))) copies in
       let (gone, freed, stands3, spare3) = alone_opened k e (Deallocates k.state.machine addr) frees in (
         record {
           meanwhile = m.state;
@@ -98,7 +98,7 @@ module _ (f m k e : FlexContents PageCursor) (addr keep : ℕ) (wanted : Layout)
   -- the copy changes no length
   copied_length : (a : ℕ) → length (bytes_at k.state.machine a) ≡ length (bytes_at m.state.machine a)
   copied_length a =
-      let bytes = with_front keep (bytes_at m.state.machine addr) (bytes_at m.state.machine (at to)) in
+      let bytes = (take keep (bytes_at m.state.machine addr) ++ drop keep (bytes_at m.state.machine (at to))) in
       let (notes, step, led, outside, stands) = flex_opened f m (FlexAllocates 64 64 (terms_of f.source) f.state wanted.size wanted.align (Some (at to))) takes in
       let (fills, copied, stands2, spare2) = alone_opened m k (Fills m.state.machine (at to) bytes) copies in
       let seen : SeesFilled m.state.machine k.state.machine (at to) bytes = filled_seen stands.well_formed.machine k.state.machine (at to) bytes fills in

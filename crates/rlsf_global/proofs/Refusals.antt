@@ -5,7 +5,7 @@ use Rattle.rlsf_global.specs.Refusals.{RefusesOnlyBy}
 use Rattle.rlsf_model_global.specs.declared.error.GlobalError.{GlobalError}
 use Rattle.rlsf_model_global.specs.declared.error.GlobalError.TheVariants.{JournalMemory, NoRoom, OutOfRange, TableMemory, UnknownAddress, WrongLayout}
 use Rattle.rlsf_model_global.specs.Heap.{Heap}
-use Rattle.rlsf_model_global.specs.Moves.{HeapMovesAway, ReallocatesAsAt, ReallocatesAt, ReallocatesThereAt, ReallocatesTo, HeapResizesThere, ResizesTo}
+use Rattle.rlsf_model_global.specs.Moves.{HeapMovesAway, ReallocatesAsAt, ReallocatesAt, ReallocatesThereAt, ReallocatesTo, HeapResizesThere}
 use Rattle.rlsf_model_global.specs.Rows.{Row}
 use Rattle.rlsf_model_global.specs.Steps.{DeallocatesAsAt, DeallocatesAt, Done, HeapAllocates, Placed, ReadsAt, UsableAt, WritesAt}
 use Rattle.rlsf_blocks.proofs.Refused.{err_always}
@@ -60,7 +60,8 @@ reallocates_refuses h g addr wanted (Some row) r step = moves_refuses h g addr _
 more : (r : Placed) → RefusesOnlyBy (UnknownAddress ∷ NoRoom ∷ []) r → RefusesOnlyBy (UnknownAddress ∷ WrongLayout ∷ NoRoom ∷ []) r
 more r by = grind arith
 
-resizes_refuses : (h g : Heap) (addr : ℕ) (wanted : Layout) (r : Placed) → ResizesTo h addr wanted r g → RefusesOnlyBy (UnknownAddress ∷ WrongLayout ∷ NoRoom ∷ []) r
+resizes_refuses : (h g : Heap) (addr : ℕ) (wanted : Layout) (r : Placed) → ReallocatesTo true h addr wanted wanted r g
+    → RefusesOnlyBy (UnknownAddress ∷ WrongLayout ∷ NoRoom ∷ []) r
 resizes_refuses h g addr wanted r step = grind arith
 
 to_refuses : (enabled : Bool) (h g : Heap) (addr : ℕ) (old wanted : Layout) (r : Placed) → ReallocatesTo enabled h addr old wanted r g

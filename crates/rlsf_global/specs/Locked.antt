@@ -32,7 +32,7 @@ locked_contents f live = record { memory = f.memory; table = f.table; heap = hea
 abbrev pub flex_of : LockedContents → FlexContents PageCursor
 flex_of v = record { memory = v.memory; table = v.table; source = v.heap.source; state = v.heap.flex }
 
--- What is true of every such allocator with its entries: memory, class table and source represent the state, which is well-formed. The
+-- What is true of every such allocator with its entries: its state is well-formed in its memory, with the ranges that the source owes. The
 -- entries list exactly the live payloads, in the order of their addresses.
 pub record IsLocked (f : FlexContents PageCursor) (rows : List Row) : Type 0 where
   pub flex : FlexStandsFor 64 64 terms_of MayOwe f

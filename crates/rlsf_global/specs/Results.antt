@@ -6,7 +6,7 @@ use Rattle.rlsf_global.specs.Journal.Replay.{BookContents}
 use Rattle.rlsf_global.specs.Kept.{KeepsFirst}
 use Rattle.rlsf_global.specs.LiveRows.{HasCodes, LiveRows}
 use Rattle.rlsf_global.specs.Locked.{LockedContents, flex_of}
-use Rattle.rlsf_global.specs.Memory.{BoundsOnResize, CopiesOnResize, KeepsMemory}
+use Rattle.rlsf_global.specs.Memory.{CopiesOnResize, KeepsMemory}
 use Rattle.rlsf_model_global.specs.declared.error.GlobalError.TheVariants.{TableMemory}
 use Rattle.rlsf_model_global.specs.Heap.{HasLayout, Heap, content_at, layout_at}
 use Rattle.rlsf_model_global.specs.Left.{in_both}
@@ -107,10 +107,8 @@ pub record IsLockedUntouched (before after : LockedContents) : Type 0 where
 
 -- ---- what a call keeps in every case
 
--- Of the table of live addresses: how many codes a call reads or writes at most. The zeros aren't counted that an allocation writes to all
--- codes when it makes them, since the system refused them before.
-abbrev pub LooksAtMost : ℕ → LockedContents → LockedContents → Type 0
-LooksAtMost most before after = after.looks ≤ before.looks + most
+-- The count of the table of live addresses has the codes that are read or written, but not the zeros that an allocation writes to all codes when it
+-- makes them, since the system refused them before.
 
 -- Of an allocation: it lacks memory for the table only if there is no room for all codes, and else there is room for them afterwards.
 abbrev pub ReservesCodes : Placed → LiveRows → LiveRows → Type 0
@@ -126,7 +124,7 @@ pub record KeepsLocked (before after : LockedContents) : Type 0 where
   -- no byte is copied
   pub copied : after.memory.copied ≡ before.memory.copied
   -- few codes of the table are read or written
-  pub looks : LooksAtMost 2 before after
+  pub looks : after.looks ≤ before.looks + 2
   -- and if there is room for all codes, it stays
   pub codes : HasCodes before.live → HasCodes after.live
 
@@ -141,7 +139,7 @@ pub record KeepsLockedWriting (before after : LockedContents) : Type 0 where
   -- no byte is copied
   pub copied : after.memory.copied ≡ before.memory.copied
   -- one code of the table is read
-  pub looks : LooksAtMost 1 before after
+  pub looks : after.looks ≤ before.looks + 1
   -- and if there is room for all codes, it stays
   pub codes : HasCodes before.live → HasCodes after.live
 
@@ -154,7 +152,7 @@ pub record KeepsLockedResizing (enabled : Bool) (addr size wanted : ℕ) (before
   -- copied bytes are only added, and how many are is bounded
   pub copied : CopiesOnResize enabled before.heap.flex.machine addr size wanted before.memory after.memory
   -- few codes of the table are read or written
-  pub looks : LooksAtMost 3 before after
+  pub looks : after.looks ≤ before.looks + 3
   -- and if there is room for all codes, it stays
   pub codes : HasCodes before.live → HasCodes after.live
 
@@ -169,7 +167,7 @@ pub record KeepsLockedMoving (addr size : ℕ) (answer : Placed) (before after :
   -- none if the call is refused
   pub copied_none : OnErr answer (after.memory.copied ≡ before.memory.copied)
   -- few codes of the table are read or written
-  pub looks : LooksAtMost 3 before after
+  pub looks : after.looks ≤ before.looks + 3
   -- and if there is room for all codes, it stays
   pub codes : HasCodes before.live → HasCodes after.live
 
@@ -183,9 +181,3 @@ pub record KeepsBookWriting (before after : BookContents) : Type 0 where
   pub grow : before.locked.memory.touches ≤ after.locked.memory.touches
   -- no byte is copied
   pub copied : after.locked.memory.copied ≡ before.locked.memory.copied
-
--- ---- word accesses
-
--- of a call that changes the size of the payload at an address, of this alignment
-abbrev pub BoundsResizing : Bool → ℕ → ℕ → ℕ → LockedContents → LockedContents → Type 0
-BoundsResizing enabled addr size align before after = BoundsOnResize enabled before.heap.flex.machine addr size align before.memory after.memory

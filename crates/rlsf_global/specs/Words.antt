@@ -10,10 +10,10 @@ pub use Rattle.rlsf_model_global.specs.Steps.{HeapAllocates, HeapDeallocates, He
 pub use Rattle.rlsf_global.specs.Kept.{KeepsFirst}
 pub use Rattle.rlsf_global.specs.LiveRows.{HasCodes}
 pub use Rattle.rlsf_global.specs.Locked.{LockedContents, LockedStands, flex_of}
-pub use Rattle.rlsf_global.specs.Memory.{CopiesOnResize, IfUnasked, KeepsMemory}
+pub use Rattle.rlsf_global.specs.Memory.{BoundsOnResize, CopiesOnResize, IfUnasked, KeepsMemory}
 pub use Rattle.rlsf_global.specs.Refusals.{RefusesOnlyBy}
 pub use Rattle.rlsf_global.specs.Results.{HeapAllocated, HeapDeallocated, HeapMoved, HeapReallocated, HeapResized, HeapWritten, IsLockedUnchanged, IsLockedUntouched}
-pub use Rattle.rlsf_global.specs.Results.{BoundsResizing, KeepsBookWriting, KeepsLocked, KeepsLockedMoving, KeepsLockedResizing, KeepsLockedWriting, ReservesCodes}
+pub use Rattle.rlsf_global.specs.Results.{KeepsBookWriting, KeepsLocked, KeepsLockedMoving, KeepsLockedResizing, KeepsLockedWriting, ReservesCodes}
 -- of the journal
 pub use Rattle.rlsf_global.specs.Journal.Close.{Agree, AreComplete, LacksOne, is_strange}
 pub use Rattle.rlsf_global.specs.Journal.Entries.{IsReplyTo, entries_of, receipts_of}

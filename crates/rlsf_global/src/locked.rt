@@ -6,9 +6,9 @@ ghost use Rattle.std.specs.Vec.{vec_capacity};
 ghost use Rattle.rlsf_base.specs.Addr.{at};
 ghost use Rattle.rlsf_base.specs.Layout.{IsLayout};
 ghost use Rattle.rlsf_base.specs.Space.{range_of};
-ghost use Rattle.rlsf_global.specs.Memory.{IfUnasked};
+ghost use Rattle.rlsf_global.specs.Memory.{BoundsOnResize, IfUnasked};
 ghost use Rattle.rlsf_global.specs.Results.{HeapAllocated, HeapDeallocated, HeapMoved, HeapReallocated, HeapResized, HeapWritten};
-ghost use Rattle.rlsf_global.specs.Results.{BoundsResizing, IsLockedUnchanged, IsLockedUntouched};
+ghost use Rattle.rlsf_global.specs.Results.{IsLockedUnchanged, IsLockedUntouched};
 ghost use Rattle.rlsf_global.specs.Results.{KeepsLocked, KeepsLockedMoving, KeepsLockedResizing, KeepsLockedWriting, ReservesCodes};
 ghost use Rattle.rlsf_model.specs.Allocate.{HasRoomFor};
 ghost use Rattle.rlsf_model_global.specs.declared.error.GlobalError.TheVariants.{UnknownAddress};
@@ -218,7 +218,7 @@ impl<Options: GlobalTlsfOptions> Locked<Options> {
         ensures refused { OnErr result (IsLockedUnchanged self.old self.new) }
         ensures unasked { IfUnasked result (self.new.memory ≡ self.old.memory) }
         ensures frame { KeepsLockedResizing Options.ENABLE_REALLOCATION (at addr) layout.size new_size self.old self.new }
-        ensures touches { BoundsResizing Options.ENABLE_REALLOCATION (at addr) new_size layout.align self.old self.new }
+        ensures touches { BoundsOnResize Options.ENABLE_REALLOCATION self.old.heap.flex.machine (at addr) new_size layout.align self.old.memory self.new.memory }
     {
         let Some(row) = row_of(&self.flex, &mut self.rows, addr) else {
             return Err(GlobalError::UnknownAddress);

@@ -1,16 +1,15 @@
 -- A heap in which the length of a payload was found, where only word accesses were counted; and a payload that stays or moves then.
-use Rattle.std.proofs.Common.{◌≡◌, ℕ, ◌+◌, Option, arith, refl, sym, ap, subst, ◌∙◌, ◌≢◌, Some, None, true≢false, get_or-take, slice_index, ◌<◌, ◌≤◌, List, length, Result, Ok, Err}
+use Rattle.std.proofs.Common.{◌≡◌, ℕ, ◌+◌, Option, arith, refl, sym, ap, subst, ◌∙◌, ◌≢◌, Some, None, true≢false, get_or-take, slice_index, ◌<◌, ◌≤◌, ◌%◌, List, length, Result, Ok, Err}
 use Rattle.rlsf_base.specs.Layout.{IsLayout}
 use Rattle.rlsf_base.specs.OpenSpace.{IsAway}
 use Rattle.rlsf_base.specs.Piece.{Piece, piece_range}
 use Rattle.rlsf_model_sizes.specs.Sizes.{request_size}
 use Rattle.rlsf_model.specs.Sized.{live_bytes}
-use Rattle.rlsf_model.specs.State.{State}
-use Rattle.rlsf_heap.specs.Frame.{KeepsBytes, KeepsFrame, KeepsHeap, KeepsSized}
-use Rattle.rlsf_heap.specs.Heap.{HeapView, IsOwners, PayloadView, Steps, lent_bytes, payload_view, Stands}
+use Rattle.rlsf_model.specs.State.{State, filled}
+use Rattle.rlsf_heap.specs.Frame.{KeepsFrame, KeepsHeap, KeepsSized}
+use Rattle.rlsf_heap.specs.Heap.{HeapView, IsOwners, IsWritten, PayloadView, Steps, lent_bytes, payload_view, Stands}
 use Rattle.rlsf_heap.specs.Kept.{KeepsBytesBeside, KeepsSpareBytes, NoneBecomesRaw}
-use Rattle.rlsf_heap.specs.Reallocation.{owned_by}
-use Rattle.rlsf_heap.specs.Replies.{IsDeallocated, IsGone, IsReallocated, IsReallocatedHere, IsRefused, IsResized}
+use Rattle.rlsf_heap.specs.Replies.{IsDeallocated, IsGone, IsRefused, IsResized}
 use Rattle.rlsf_heap.specs.Settled.{IsSettled}
 use Rattle.std.specs.Prelude.{IfErr, IfOk}
 use Rattle.rlsf_model.specs.Allocate.{Allocates}
@@ -39,14 +38,15 @@ heap_found v w new is kept =
     let k = subst (λ (x : HeapView). KeepsHeap x new) is kept in
     record { identity = k.identity; place = k.place; spare = k.spare; lent = k.lent; lent_bytes = k.lent_bytes; grow = omega (arith, k.grow) }
 
-pub bytes_found : (v w new : HeapView) → w ≡ found v → KeepsBytes w new → KeepsBytes v new
-unfolding NoneBecomesRaw IsSettled
-bytes_found v w new is kept = let k = subst (λ (x : HeapView). KeepsBytes x new) is kept in record { raw = k.raw; settled = k.settled }
+pub raw_found : (v w new : HeapView) → w ≡ found v → NoneBecomesRaw w new → NoneBecomesRaw v new
+unfolding NoneBecomesRaw
+raw_found v w new is raw = subst (λ (x : HeapView). NoneBecomesRaw x new) is raw
 
 pub frame_found : (v w new : HeapView) → w ≡ found v → KeepsFrame w new → KeepsFrame v new
 frame_found v w new is kept = record {
   heap = heap_found v w new is kept.heap;
-  bytes = bytes_found v w new is kept.bytes;
+  raw = raw_found v w new is kept.raw;
+  settled = λ settled. kept.settled (settled_found v w is settled);
   chunks = kept.chunks ∙ ap (λ (x : HeapView). x.state.chunks) is;
   copied = kept.copied ∙ ap (λ (x : HeapView). x.memory.copied) is;
 }
@@ -78,32 +78,47 @@ module _ {v w : HeapView} {p q : PayloadView} {addr align : ℕ} (f : IsFound v 
 
   -- a step of the payload that was found is one of the payload as its caller has it
   pub step_found : (fllen sllen : ℕ) (new : HeapView) (size : ℕ) (Step : State → ℕ → Option ℕ → State → Type 0) (from to : Option ℕ) → from ≡ to
-      → Steps fllen sllen new (λ t. IsLayout size q.align → Step (owned_by w.state q) q.start from t)
-      → Steps fllen sllen new (λ t. IsLayout size align → Step (owned_by v.state p) addr to t)
+      → Steps fllen sllen new (λ t. IsLayout size q.align → Step (filled w.state q.start q.bytes) q.start from t)
+      → Steps fllen sllen new (λ t. IsLayout size align → Step (filled v.state p.start p.bytes) addr to t)
   step_found fllen sllen new size Step from to reply did =
-      subst (λ (x : State × PayloadView × ℕ × ℕ × Option ℕ). Steps fllen sllen new (λ t. IsLayout size x.3 → Step (owned_by x.0 x.1) x.2 x.4 t))
+      subst (λ (x : State × PayloadView × ℕ × ℕ × Option ℕ). Steps fllen sllen new (λ t. IsLayout size x.3 → Step (filled x.0 x.1.start x.1.bytes) x.2 x.4 t))
       (λ i. ((f.heap i).state, f.same i, start_is i, align_is i, reply i)) did
 
   pub sized_found : (sllen size : ℕ) (new : HeapView) → KeepsSized sllen w.state new.state size q.align → KeepsSized sllen v.state new.state size align
   sized_found sllen size new kept = subst (λ (x : HeapView × ℕ). KeepsSized sllen x.0.state new.state size x.1) (λ i. (f.heap i, align_is i)) kept
 
-  -- the same of its bytes are here
-  pub here_found : (to now : PayloadView) → now ≡ to → IsReallocatedHere w q to → IsReallocatedHere v p now
-  here_found to now thin here = grind (arith, as_found, settled_found, found)
-
   -- it has the size, of the same heap and with the same alignment
   pub resized_found : (size : ℕ) (new : HeapView) (to now : PayloadView) → now ≡ to → IsResized w new size q.align q to → IsResized v new size align p now
-  resized_found size new to now thin is = record {
-    identity = ap (λ (o : PayloadView). o.identity) thin ∙ is.identity ∙ ap (λ (x : HeapView). x.identity) f.heap;
-    requested = ap (λ (o : PayloadView). o.align) thin ∙ is.requested ∙ align_is;
-    made = as_found to now thin (λ x from addr wide made. IsReallocated new.state from size wide made) is.made;
-    here = here_found to now thin is.here;
-  }
+  resized_found size new to now thin is =
+      let r = as_found to now thin (λ x from addr wide made. IsResized x new size wide from made) is in record {
+        identity = r.identity;
+        requested = r.requested;
+        live = r.live;
+        long = r.long;
+        aligned = r.aligned;
+        sized = r.sized;
+        few = r.few;
+        kept = r.kept;
+        each = r.each;
+        here = r.here;
+        shrunk = r.shrunk;
+        written = λ settled. r.written (settled_found v (found v) refl settled);
+      }
 
   -- or it was refused
   pub refused_found : (new : HeapView) (to now : PayloadView) → now ≡ to → IsRefused w new q.start q.align q to → IsRefused v new addr align p now
   unfolding KeepsBytesBeside
-  refused_found new to now thin is = grind (arith, align_is, as_found)
+  refused_found new to now thin is =
+      let r = as_found to now thin (λ x from addr wide made. IsRefused x new addr wide from made) is in record {
+        identity = r.identity;
+        requested = r.requested;
+        start = r.start;
+        bytes = r.bytes;
+        written = r.written;
+        alike = r.alike;
+        aligns = r.aligns;
+        unchanged = r.unchanged;
+      }
 
 -- ---- a payload that moved into a new one, whatever its alignment is
 
@@ -126,7 +141,7 @@ module _ (fllen sllen : ℕ) (old first mid last : HeapView) (is : first ≡ fou
   pub others_stay : (a : ℕ) → a ≢ addr → bytes_at last.state a ≡ bytes_at mid.state a
   unfolding Steps Stands
   others_stay a apart =
-      (gone_seen made.1.well_formed last.state from (gone.0.block, gone.0.holds) gone.0).bytes a (λ e. apart (e ∙ at))
+      (gone_seen made.1 last.state from (gone.0.block, gone.0.holds) gone.0).bytes a (λ e. apart (e ∙ at))
 
 -- a payload that is new isn't one that was live
 pub new_is_other : (s t : State) → t ≡ s → (a b align : ℕ) → align_at s a ≡ Some align → align_at t b ≡ None → b ≢ a
@@ -181,10 +196,21 @@ module _ {P Q : ThinPayload → Type 0} where
   if_err (Ok p) f is = tt
   if_err (Err p) f is = f p is
 
--- a payload that moved is a reallocated one, also of the payload with the same bytes that was there before
-pub reallocated_as : (state : State) (mid was p : PayloadView) (size align : ℕ) → mid.bytes ≡ was.bytes → p.align ≡ align → IsReallocated state mid size align p
-    → IsReallocated state was size p.align p
-reallocated_as state mid was p size align same requested made =
-    let kept : Keeps was.bytes p.bytes = subst (λ (l : List ℕ). Keeps l p.bytes) same made.kept in
-    subst (λ a. IsReallocated state was size a p) (sym requested)
-    (record { live = made.live; long = made.long; aligned = made.aligned; sized = made.sized; few = made.few; kept = kept; each = Keeps-each was.bytes p.bytes kept })
+-- a payload that moved has another size, also as one of the payload with the same bytes that was there before
+pub resized_as : (before mid after : HeapView) (first was p : PayloadView) (size align : ℕ) → mid.identity ≡ before.identity → first.bytes ≡ was.bytes → IsWritten p
+    → IsResized mid after size align first p → IsResized before after size p.align was p
+resized_as before mid after first was p size align identity same written is =
+    let kept : Keeps was.bytes p.bytes = subst (λ (l : List ℕ). Keeps l p.bytes) same is.kept in record {
+      identity = is.identity ∙ identity;
+      requested = refl;
+      live = is.live ∙ ap Some (sym is.requested);
+      long = is.long;
+      aligned = subst (λ a. p.start % a ≡ 0) (sym is.requested) is.aligned;
+      sized = is.sized;
+      few = is.few;
+      kept = kept;
+      each = Keeps-each was.bytes p.bytes kept;
+      here = λ i from high. written i from (omega (arith, high));
+      shrunk = λ _. written;
+      written = λ _. written;
+    }

@@ -16,7 +16,7 @@ use Rattle.rlsf_table.specs.Table.{Table}
 use Rattle.rlsf_table.proofs.Tables.Tests.{same_truth}
 use Rattle.rlsf_blocks.specs.StandsFor.{contents, IsUnlent, StandsFor}
 use Rattle.rlsf_blocks.proofs.Words.Apart.{home_of_used, used_in_memory}
-use Rattle.rlsf_heap.specs.Heap.{is_lent_at, AreIssued, AreAmong, IsHeapOf, IsOutsideChunks, IsUsable, OwnsRest, heap_view, lent_bytes, HeapView, IsWritten, PayloadView}
+use Rattle.rlsf_heap.specs.Heap.{AreIssued, AreAmong, IsHeapOf, IsOutsideChunks, IsUsable, OwnsRest, heap_view, lent_bytes, HeapView, IsWritten, PayloadView}
 use Rattle.rlsf_heap.specs.Kept.{KeepsOwn, KeepsBytesBeside, KeepsSpareBytes, NoneBecomesRaw}
 use Rattle.rlsf_base.proofs.Changes.{back-before, back-behind, back-there, changed-before, changed-behind, changed-there}
 use Rattle.rlsf_base.specs.Ledger.{Entry}
@@ -32,7 +32,7 @@ use Rattle.rlsf_blocks.specs.Spare.{IsSpare, KeepsSpare}
 use Rattle.rlsf_blocks.proofs.Words.Stays.{Stays}
 use Rattle.rlsf_base.proofs.Lending.Present.{here-none}
 use Rattle.rlsf_heap.specs.Settled.{IsSettled}
-use Rattle.rlsf_heap.specs.Frame.{KeepsBytes, KeepsFrame, KeepsHeap, KeepsPayloads}
+use Rattle.rlsf_heap.specs.Frame.{KeepsFrame, KeepsHeap, KeepsPayloads}
 use Rattle.rlsf_heap.specs.Replies.{IsRefused}
 
 -- ---- which bytes are lent to a heap: calls on payloads and on pools keep them
@@ -45,6 +45,10 @@ guarded false h x y same eq = ap (λ t. t && y) same
 -- whether a byte is the memory's own, or in a chunk
 abbrev has : Space → State → ℕ → Bool
 has m s a = is_own (out_at m a) || leb 1 (coverage itself s.chunks a)
+
+-- whether a byte is lent to a heap
+abbrev pub is_lent_at : Space → State → ℕ → Bool
+is_lent_at m s a = leb m.start a && has m s a
 
 pub lent_same : (m n : Space) (s t : State) → n.start ≡ m.start → ((a : ℕ) → m.start ≤ a → has n t a ≡ has m s a) → is_lent_at n t ≡ is_lent_at m s
 lent_same m n s t start each = grind (arith, guarded, has, leb-true)
@@ -400,15 +404,15 @@ pub heap_same : (v : HeapView) → KeepsHeap v v
 unfolding KeepsSpareBytes
 heap_same v = record { identity = refl; place = (refl, refl); spare = λ a from to before after. refl; lent = refl; lent_bytes = refl; grow = omega arith }
 
-pub bytes_same : (v : HeapView) → KeepsBytes v v
+pub raw_same : (v : HeapView) → NoneBecomesRaw v v
 unfolding NoneBecomesRaw
-bytes_same v = record { raw = λ a from is. is; settled = λ settled. settled }
+raw_same v = λ a from is. is
 
 pub frame_same : (v : HeapView) → KeepsFrame v v
-frame_same v = record { heap = heap_same v; bytes = bytes_same v; chunks = refl; copied = refl }
+frame_same v = record { heap = heap_same v; raw = raw_same v; settled = λ settled. settled; chunks = refl; copied = refl }
 
 pub payloads_same : (v : HeapView) → KeepsPayloads v v
-payloads_same v = record { heap = heap_same v; bytes = bytes_same v; aligns = refl; count = refl; copied = refl }
+payloads_same v = record { heap = heap_same v; raw = raw_same v; settled = λ settled. settled; aligns = refl; count = refl; copied = refl }
 
 -- a payload that goes back to its caller at once is as it was
 pub refused_same : (v : HeapView) (p : PayloadView) → p.identity ≡ v.identity → IsWritten p → IsRefused v v p.start p.align p p

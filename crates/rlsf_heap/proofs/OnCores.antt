@@ -15,10 +15,10 @@ use Rattle.rlsf_blocks.proofs.Words.Stays.{Stays}
 use Rattle.rlsf_tlsf.specs.Allocator.{allocator}
 use Rattle.rlsf_tlsf.specs.Cores.{IsCore, LeavesCore, LeavesCoreCopying, IsPayloadRange}
 use Rattle.rlsf_tlsf.specs.Results.{KeepsFrameOfPools}
-use Rattle.rlsf_heap.specs.Frame.{KeepsBytes, KeepsFrame, KeepsHeap, KeepsPayloads}
-use Rattle.rlsf_heap.specs.Heap.{AreIssued, HeapView, Identity, IsHeapOf, OwnsRest, Stands, Steps, heap_view, is_lent_at, lent_bytes, AreAmong, IsLent, IsOutsideChunks}
+use Rattle.rlsf_heap.specs.Frame.{KeepsFrame, KeepsHeap, KeepsPayloads}
+use Rattle.rlsf_heap.specs.Heap.{AreIssued, HeapView, Identity, IsHeapOf, OwnsRest, IsRepresented, Stands, Steps, heap_view, lent_bytes, AreAmong, IsLent, IsOutsideChunks}
 use Rattle.rlsf_heap.specs.Kept.{KeepsSpareBytes, NoneBecomesRaw}
-use Rattle.rlsf_heap.proofs.Kept.{raw-stays, lent_kept, lent_pools, issued-same, rest_pools, settled-stays, lent_own_if, owns_unlent, stands-without, own_without}
+use Rattle.rlsf_heap.proofs.Kept.{is_lent_at, raw-stays, lent_kept, lent_pools, issued-same, rest_pools, settled-stays, lent_own_if, owns_unlent, stands-without, own_without}
 use Rattle.rlsf_heap.proofs.LiveCounts.{live_count-same, live_fits}
 use Rattle.rlsf_base.specs.declared.memory.range.Range.{Range}
 use Rattle.rlsf_base.specs.Changes.{IsAllOwn}
@@ -61,7 +61,14 @@ pub heap-over : (m n : Space) (x y : Table) (j k : State) → n.start ≡ m.star
     → KeepsSpare m (read_from m j) n (read_from n k) → is_lent_at n (read_from n k) ≡ is_lent_at m (read_from m j) → (ledger name : ℕ) → name ≡ ledger → {lent : Bool}
     → KeepsHeap (heap_view m x j ledger lent) (heap_view n y k name lent)
 unfolding KeepsSpareBytes lent_bytes
-heap-over m n x y j k start long view grow spare bytes ledger name same = grind (arith, same_identity)
+heap-over m n x y j k start long view grow spare bytes ledger name same = record {
+  identity = same_identity m n start long view ledger name same;
+  place = (start, long);
+  spare = spare;
+  lent = refl;
+  lent_bytes = λ i a. bytes i a;
+  grow = grow;
+}
 
 module _ {fllen sllen : ℕ} {m n : Space} {y : Table} {j k : State} {most copies : ℕ} (left : LeavesCoreCopying fllen sllen m n y j k most copies) where
   pub stays : Stays m n
@@ -74,22 +81,20 @@ module _ {fllen sllen : ℕ} {m n : Space} {y : Table} {j k : State} {most copie
   module _ (ledger : ℕ) where
     pub Steps-left : (lent : Bool) (step : State → Type 0) → step (read_from n k) → Steps fllen sllen (heap_view n y k ledger lent) step
     unfolding Steps Stands
-    Steps-left lent step did = (did, left.core.stands)
+    Steps-left lent step did = (did, left.core.stands.well_formed)
 
     module _ (x : Table) {lent : Bool} where
       heap-left : is_lent_at n (read_from n k) ≡ is_lent_at m (read_from m j) → KeepsHeap (heap_view m x j ledger lent) (heap_view n y k ledger lent)
       heap-left bytes = heap-over m n x y j k left.costs.start left.costs.length left.costs.view left.costs.grow left.spare bytes ledger ledger refl
 
-      pub bytes-left : KeepsBytes (heap_view m x j ledger lent) (heap_view n y k ledger lent)
-      unfolding NoneBecomesRaw
-      bytes-left = record { raw = raw-stays stays; settled = settled-stays stays }
-
 -- where no byte is copied
 module _ {fllen sllen : ℕ} {m n : Space} {y : Table} {j k : State} {most : ℕ} (left : LeavesCore fllen sllen m n y j k most) (ledger : ℕ) (x : Table) {lent : Bool} where
   pub frame-left : (read_from n k).chunks ≡ (read_from m j).chunks → KeepsFrame (heap_view m x j ledger lent) (heap_view n y k ledger lent)
+  unfolding NoneBecomesRaw
   frame-left chunks = record {
     heap = heap-left left ledger x (lent_kept m n (read_from m j) (read_from n k) left.costs.start chunks (λ a from out again. left.own a from));
-    bytes = bytes-left left ledger x;
+    raw = raw-stays (stays left);
+    settled = settled-stays (stays left);
     chunks = chunks;
     copied = omega (arith, left.costs.copied);
   }
@@ -106,9 +111,11 @@ module _ {fllen sllen : ℕ} {m n : Space} {x y : Table} {j k : State} {most : �
   pub frame-pools : {fl_bits sl_bits : ℕ} {es : List Entry} {count : ℕ} {lent : Bool} → IsHeapOf fl_bits sl_bits fllen sllen m x j es count lent
       → (read_from n k).used ≡ (read_from m j).used → (ledger : ℕ) → KeepsFrameOfPools (allocator m x j) (allocator n y k)
       → KeepsPayloads (heap_view m x j ledger lent) (heap_view n y k ledger lent)
+  unfolding NoneBecomesRaw
   frame-pools is used ledger frame = record {
     heap = heap-left left ledger x (lent_pools is.stands left.core.stands left.costs.start left.own used);
-    bytes = bytes-left left ledger x;
+    raw = raw-stays (stays left);
+    settled = settled-stays (stays left);
     aligns = frame.aligns;
     count = frame.count;
     copied = frame.copied;
@@ -125,6 +132,11 @@ no_used t u none i = go t.used none i
     go [] e i = i
     go (w ∷ ws) e i = omega (arith, e)
 
+-- a represented state is well-formed
+pub Stands-represented : (fllen sllen : ℕ) (v : HeapView) → IsRepresented fllen sllen v → Stands fllen sllen v
+unfolding Stands IsRepresented
+Stands-represented fllen sllen v is = is.well_formed
+
 module _ {fl_bits sl_bits fllen sllen : ℕ} {m : Space} {x : Table} {s : State} {es : List Entry} {count : ℕ} {lent : Bool}
     (is : IsHeapOf fl_bits sl_bits fllen sllen m x s es count lent) where
   -- the ghost state of a heap is its state without bytes
@@ -132,9 +144,9 @@ module _ {fl_bits sl_bits fllen sllen : ℕ} {m : Space} {x : Table} {s : State}
   bare-kept = bare-read_from m s ∙ is.is_bare
 
   -- memory and class table represent it
-  pub Stands-view : {ledger : ℕ} (v : HeapView) → heap_view m x s ledger lent ≡ v → Stands fllen sllen v
-  unfolding Stands
-  Stands-view v view = subst (λ (o : HeapView). StandsFor fllen sllen (contents o.memory o.table) o.state) view is.stands
+  pub IsRepresented-view : {ledger : ℕ} (v : HeapView) → heap_view m x s ledger lent ≡ v → IsRepresented fllen sllen v
+  unfolding IsRepresented
+  IsRepresented-view v view = subst (λ (o : HeapView). StandsFor fllen sllen (contents o.memory o.table) o.state) view is.stands
 
   -- where no payload is live, and the bytes aren't lent in ranges, no byte is out
   pub none_inside : lent ≡ false → live_count (read_from m s) ≡ 0 → IsAllOwn m.out
@@ -176,7 +188,7 @@ module _ {fllen sllen : ℕ} {n : Space} {x : Table} {t : State} (v : StandsFor 
 
   pub Stands-arrived : (ledger : ℕ) (lent : Bool) → Stands fllen sllen (heap_view n x reached ledger lent)
   unfolding Stands
-  Stands-arrived ledger lent = stands
+  Stands-arrived ledger lent = stands.well_formed
 
   pub Steps-arrived : (ledger : ℕ) (lent : Bool) (step : State → Type 0) → step (read_from n reached) → Steps fllen sllen (heap_view n x reached ledger lent) step
   unfolding Steps

@@ -2,6 +2,7 @@
 use Rattle.std.proofs.Common.{◌≡◌, ℕ, ◌+◌, ◌-◌, ◌≤◌, Bool, false, List, [], ◌∷◌, length, Option, IfSome, set, eqb, cond, arith, refl, sym, ap, subst, ◌∙◌, ◌⊎◌}
 use Rattle.std.proofs.Common.{inl, inr, ◌<◌, Some, ◌%◌, ◌^◌, None}
 use Rattle.std.specs.Prelude.{not}
+use Rattle.std.specs.Option.{option_or}
 use Rattle.rlsf_base.specs.declared.memory.range.Range.{Range}
 use Rattle.rlsf_base.specs.Ledger.{Entry, Extent, entry_of, extent}
 use Rattle.rlsf_base.specs.MemoryCalls.{IsSpaceWith}
@@ -14,7 +15,7 @@ use Rattle.rlsf_base.specs.Space.{Space, out_at, word_at}
 use Rattle.rlsf_model.specs.Callers.{bytes_at}
 use Rattle.rlsf_model.specs.Release.{Deallocates, released}
 use Rattle.rlsf_model.specs.Sized.{live_bytes, live_count}
-use Rattle.rlsf_model.specs.State.{State, Used, Holds, usable, others, filled_at, used_with_bytes as with_these}
+use Rattle.rlsf_model.specs.State.{State, Used, Holds, usable, others}
 use Rattle.rlsf_model.specs.WellFormed.{IsWellFormed, IsUsed}
 use Rattle.rlsf_model.proofs.CallerWords.{bytes_at-held, gone_seen}
 use Rattle.rlsf_model.proofs.Changes.{Holds-unique}
@@ -40,6 +41,7 @@ use Rattle.rlsf_heap.proofs.Tickets.{IsReturned, IsShown, all_behind, block, end
 use Rattle.rlsf_heap.proofs.Tickets.{payload_still, payload_there, stands-back, still, wide}
 use Rattle.rlsf_tlsf.proofs.Placed.{lies_used}
 use Rattle.rlsf_model.proofs.Payloads.{payload_of-le, payload_of-after}
+use Rattle.rlsf_model.proofs.Names.{resized, used_with_bytes as with_these, filled_at}
 use Rattle.rlsf_blocks.proofs.Words.Apart.{used_in_memory}
 use Rattle.rlsf_model.specs.Allocate.{Allocates, placed}
 use Rattle.rlsf_model.specs.Lists.{IsIn}
@@ -51,7 +53,7 @@ use Rattle.rlsf_heap.specs.Units.{payload_len}
 use Rattle.rlsf_base.proofs.Lending.Present.{own-word}
 use Rattle.rlsf_base.proofs.Lending.WordIsHere.{is_word}
 use Rattle.rlsf_model.specs.NoMove.{ReallocatesUnmovedBy, ReallocatesWithoutMove, unmoved_plan}
-use Rattle.rlsf_model.specs.Reallocate.{Plan, into_next, or_else, resized}
+use Rattle.rlsf_model.specs.Reallocate.{Plan, into_next}
 use Rattle.rlsf_blocks.proofs.Words.NeverOut.{here_behind_used}
 use Rattle.rlsf_blocks.specs.Steps.Resize.{IsOwnedBehind}
 use Rattle.rlsf_blocks.proofs.Reallocate.NextPlans.{in_place-fits, kept_whole}
@@ -193,8 +195,8 @@ unfolding Steps Stands
 units-long fllen sllen v s size addr (p, stands) =
     let u = placed p.range size 16 p.bytes in
     let i : IsIn u v.state.used = subst (λ (x : State). IsIn u x.used) (sym p.after) (inl refl) in
-    let is = stands.well_formed.used u i in
-    ap length (bytes_at-held stands.well_formed addr u (i, sym p.answer)) ∙ is.bytes ∙ usable-narrow p.range size 16 p.bytes is.whole.start is.power (omega arith)
+    let is = stands.used u i in
+    ap length (bytes_at-held stands addr u (i, sym p.answer)) ∙ is.bytes ∙ usable-narrow p.range size 16 p.bytes is.whole.start is.power (omega arith)
 
 pub payload_len-whole : (size : ℕ) → payload_len size % 16 ≡ 0
 payload_len-whole size = omega arith
@@ -245,7 +247,7 @@ module _ {fllen sllen : ℕ} {m : Space} {table : Table} {s : State} {es : List 
       go u None e did same =
           let none : unmoved_plan s (block p) size ≡ None = subst (λ b. unmoved_plan s b size ≡ None) same e in
           let some : Some (kept_whole s (block p) size) ≡ None =
-          sym (ap (λ o. or_else o (into_next s (block p) size)) (in_place-fits s (block p) size (omega (arith, reaches size, ends p, shorter)))) ∙ none in absurd (cc)
+          sym (ap (λ o. option_or o (into_next s (block p) size)) (in_place-fits s (block p) size (omega (arith, reaches size, ends p, shorter)))) ∙ none in absurd (cc)
 
 -- its units behind the first ones are back
 module _ {fllen sllen : ℕ} {m n : Space} {table : Table} {s : State} {es : List Entry} {k start len kept : ℕ}

@@ -13,7 +13,7 @@ use Rattle.rlsf_base.proofs.Lending.Replaced.{byte_at-same, bytes_in-there, byte
 use Rattle.rlsf_base.specs.declared.memory.range.Range.{Range}
 use Rattle.rlsf_base.proofs.Lending.Present.{own-here}
 use Rattle.rlsf_model.specs.Run.{Fills}
-use Rattle.rlsf_model.specs.State.{State, Used, Holds, others, usable, AreAlike}
+use Rattle.rlsf_model.specs.State.{State, Used, Holds, others, usable, AreAlike, filled}
 use Rattle.rlsf_model.proofs.Coverage.{IsIn-map}
 use Rattle.rlsf_model.specs.Callers.{align_at, bytes_at}
 use Rattle.rlsf_model.specs.NoMove.{ReallocatesWithoutMove, unmoved_plan}
@@ -43,16 +43,15 @@ use Rattle.rlsf_tlsf.proofs.Reached.{bare-core}
 use Rattle.rlsf_tlsf.proofs.Relocated.{span_held}
 use Rattle.rlsf_tlsf.proofs.Replied.{some_more}
 use Rattle.rlsf_tlsf.proofs.UnknownAlign.{denied_short, no_room_to_stay}
-use Rattle.rlsf_heap.specs.Heap.{AreIssued, IsHeapOf, IsOutsideChunks, PayloadView, Steps, heap_view, is_lent_at, payload_range}
-use Rattle.rlsf_heap.specs.Frame.{KeepsAllBounds, KeepsBytes, KeepsFrameMoving, KeepsHeap, KeepsSized}
+use Rattle.rlsf_heap.specs.Heap.{AreIssued, IsHeapOf, IsOutsideChunks, PayloadView, Steps, heap_view, payload_range}
+use Rattle.rlsf_heap.specs.Frame.{KeepsAllBounds, KeepsFrameMoving, KeepsHeap, KeepsSized}
 use Rattle.rlsf_heap.specs.Handover.{IsHandedOver, IsTakenBack}
 use Rattle.rlsf_heap.specs.Kept.{KeepsBytesBeside, KeepsOwn, NoneBecomesRaw}
-use Rattle.rlsf_heap.specs.Reallocation.{owned_by}
 use Rattle.rlsf_heap.specs.Replies.{IsRefused, IsResized}
 use Rattle.rlsf_heap.specs.Settled.{IsSettled}
 use Rattle.rlsf_heap.specs.ThinUnknownAlign.{IfBytesSuffice}
 use Rattle.rlsf_heap.proofs.OnCores.{IsHeap-arrived, Steps-arrived, heap-over, same_identity, stays}
-use Rattle.rlsf_heap.proofs.Kept.{raw-left, raw-stays, raw-with, same-byte, spare-last, spare-then, lent_kept, stands-without, outside_unlent, own_without, rest_kept, settled-back}
+use Rattle.rlsf_heap.proofs.Kept.{is_lent_at, raw-left, raw-stays, raw-with, same-byte, spare-last, spare-then, lent_kept, stands-without, outside_unlent, own_without, rest_kept, settled-back}
 use Rattle.rlsf_heap.proofs.Kept.{settled-here, settled-left, settled-stays}
 use Rattle.rlsf_tlsf.proofs.Placed.{lies_used}
 use Rattle.rlsf_heap.proofs.Tickets.{payload_as, redeemed_ticket, shown_live, own_at, still, issued-less, issued-more, redeemed_apart, IsShown, block, held, live, long, usable_is}
@@ -163,7 +162,7 @@ module _ {fl_bits sl_bits fllen sllen : ℕ} {m n : Space} {x : Table} {j : Stat
       subst (λ (bs : List ℕ). Fills (read_from m j) pay.start bs (read_from n j))
       (ap (bytes_in n) (usable_is p) ∙ bytes_in-there m n (payload_range pay) pay.bytes (lies p) refl back.memory.start back.memory.bytes) reread.0
 
-  owned_back : read_from n j ≡ owned_by (read_from m j) pay
+  owned_back : read_from n j ≡ filled (read_from m j) pay.start pay.bytes
   owned_back = filled_back.after
 
   stands_in : StandsFor fllen sllen (contents n x) (read_from n j)
@@ -346,10 +345,10 @@ module _ {fl_bits sl_bits fllen sllen : ℕ} {m n : Space} {x : Table} {j : Stat
 
         -- a step, as contracts see it
         pub step_over : (label : ℕ) (Step : State → State → Type 0) → Step (read_from n j) (read_from o k)
-            → Steps fllen sllen (heap_view q y k label lent) (Step (owned_by (read_from m j) pay))
+            → Steps fllen sllen (heap_view q y k label lent) (Step (filled (read_from m j) pay.start pay.bytes))
         step_over label Step did =
-            Steps-arrived standing k (sym (bare-core core.core)) label lent (Step (owned_by (read_from m j) pay))
-            (reads_over (Step (owned_by (read_from m j) pay)) (subst (λ (s : State). Step s (read_from o k)) owned_back did))
+            Steps-arrived standing k (sym (bare-core core.core)) label lent (Step (filled (read_from m j) pay.start pay.bytes))
+            (reads_over (Step (filled (read_from m j) pay.start pay.bytes)) (subst (λ (s : State). Step s (read_from o k)) owned_back did))
 
         -- the other tickets are those of the same payloads, and the new one is its own
         others_at : (i : ℕ) (w : Extent) → IsIssued fs i w → w.addr ≢ to
@@ -398,15 +397,15 @@ module _ {fl_bits sl_bits fllen sllen : ℕ} {m n : Space} {x : Table} {j : Stat
         settled_over : IsSettled m → IsSettled o
         settled_over settled = settled-stays (stays core) (settled_before settled)
 
-        pub bytes_over : (ledger label : ℕ) → KeepsBytes (heap_view m x j ledger lent) (heap_view q y k label lent)
+        pub settled_last : IsSettled m → IsSettled q
+        settled_last settled = settled-left o q r over.memory.start lies_over.0 over.memory.out (settled_over settled)
+
+        pub raw_over : (ledger label : ℕ) → NoneBecomesRaw (heap_view m x j ledger lent) (heap_view q y k label lent)
         unfolding NoneBecomesRaw
-        bytes_over ledger label = record {
-          raw = λ a from is_raw.
-              raw_back a from
-              (raw-stays (stays core) a (omega (arith, from, back.memory.start))
-              (raw-left o q r over.memory.start lies_over.0 over.memory.out a (omega (arith, from, back.memory.start, core.costs.start)) is_raw));
-          settled = λ settled. settled-left o q r over.memory.start lies_over.0 over.memory.out (settled_over settled);
-        }
+        raw_over ledger label = λ a from is_raw.
+            raw_back a from
+            (raw-stays (stays core) a (omega (arith, from, back.memory.start))
+            (raw-left o q r over.memory.start lies_over.0 over.memory.out a (omega (arith, from, back.memory.start, core.costs.start)) is_raw))
 
         -- its bytes are those of the state
         values_over : p.bytes ≡ bytes_at (read_from o k) to
@@ -426,13 +425,12 @@ module _ {fl_bits sl_bits fllen sllen : ℕ} {m n : Space} {x : Table} {j : Stat
         frame_over ledger label named size frame =
             let least : o.copied ≤ n.copied + length pay.bytes = subst (λ (l : List ℕ). o.copied ≤ n.copied + length l) bytes_are frame.copied in record {
               heap = keeps_over frame.chunks ledger label named;
-              bytes = bytes_over ledger label;
+              raw = raw_over ledger label;
+              settled = settled_last;
               chunks = reads_over (λ (s : State). s.chunks ≡ j.chunks) frame.chunks;
-              copied = record {
-                copied = omega (arith, least, over.counts.1, back.counts.1);
-                grow_copied = omega (arith, frame.grow_copied, over.counts.1, back.counts.1);
-                stays = λ room. over.counts.1 ∙ frame.stays (room_back size room) ∙ back.counts.1;
-              };
+              copied = omega (arith, least, over.counts.1, back.counts.1);
+              grow_copied = omega (arith, frame.grow_copied, over.counts.1, back.counts.1);
+              stays = λ room. over.counts.1 ∙ frame.stays (room_back size room) ∙ back.counts.1;
             }
 
         -- ---- it has the size, or is as it was
@@ -452,22 +450,18 @@ module _ {fl_bits sl_bits fllen sllen : ℕ} {m n : Space} {x : Table} {j : Stat
               ∙ still_here (r.start + i) (omega (arith, over.at, begins)) (omega (arith, over.at, begins, below, ap length bytes_are)) in record {
                 identity = identity_over;
                 requested = over.align ∙ aligned;
-                made = record {
-                  live = reads_over (λ (s : State). align_at s p.start ≡ Some pay.align) (ap (align_at (read_from o k)) begins ∙ at.live);
-                  long = reads_over (λ (s : State). length p.bytes ≡ length (bytes_at s p.start))
-                      (ap length values_over ∙ ap (λ a. length (bytes_at (read_from o k) a)) (sym begins));
-                  aligned = live_addresses_are_aligned fllen sllen (range_of o) (read_from o k) p.start pay.align core.core.stands.well_formed
-                      (u, (holds.0, holds.1 ∙ sym begins), aligned_as);
-                  sized = omega (arith, enough, ap length values_over);
-                  few = omega (arith, few, ap length values_over);
-                  kept = kept;
-                  each = Keeps-each pay.bytes p.bytes kept;
-                };
-                here = record {
-                  here = λ i from high. as_was i (omega (arith, high)) (omega (arith, high));
-                  shrunk = λ shorter i from high. as_was i (omega (arith, high, shorter)) (omega (arith, high));
-                  written = λ settled. over.full (settled-here o r lies_over.0 own_over (settled_over settled));
-                };
+                live = reads_over (λ (s : State). align_at s p.start ≡ Some pay.align) (ap (align_at (read_from o k)) begins ∙ at.live);
+                long = reads_over (λ (s : State). length p.bytes ≡ length (bytes_at s p.start))
+                    (ap length values_over ∙ ap (λ a. length (bytes_at (read_from o k) a)) (sym begins));
+                aligned = live_addresses_are_aligned fllen sllen (range_of o) (read_from o k) p.start pay.align core.core.stands.well_formed
+                    (u, (holds.0, holds.1 ∙ sym begins), aligned_as);
+                sized = omega (arith, enough, ap length values_over);
+                few = omega (arith, few, ap length values_over);
+                kept = kept;
+                each = Keeps-each pay.bytes p.bytes kept;
+                here = λ i from high. as_was i (omega (arith, high)) (omega (arith, high));
+                shrunk = λ shorter i from high. as_was i (omega (arith, high, shorter)) (omega (arith, high));
+                written = λ settled. over.full (settled-here o r lies_over.0 own_over (settled_over settled));
               }
 
           pub refused_over : read_from o k ≡ read_from n j → o.bytes ≡ n.bytes → to ≡ pay.start → IsHere o (span (read_from n j) pay.start to)
@@ -476,12 +470,10 @@ module _ {fl_bits sl_bits fllen sllen : ℕ} {m n : Space} {x : Table} {j : Stat
           refused_over unchanged bytes there still_here = record {
             identity = identity_over;
             requested = over.align ∙ aligned;
-            returned = record {
-              start = begins ∙ there;
-              bytes = values_over ∙ (λ i. bytes_at (unchanged i) (there i)) ∙ bytes_are;
-              written = over.full (subst (IsHere o) ((λ i. range_at to (length (bytes_at (sym unchanged i) (sym there i)))) ∙ sym is_range) still_here);
-              alike = reads_over (AreAlike (read_from m j)) (subst (AreAlike (read_from m j)) (sym unchanged) (AreAlike-filled filled_back));
-              aligns = reads_over (λ (s : State). align_at s ≡ align_at (read_from m j)) (ap align_at unchanged ∙ (λ i a. seen_back.aligns a i));
-            };
+            start = begins ∙ there;
+            bytes = values_over ∙ (λ i. bytes_at (unchanged i) (there i)) ∙ bytes_are;
+            written = over.full (subst (IsHere o) ((λ i. range_at to (length (bytes_at (sym unchanged i) (sym there i)))) ∙ sym is_range) still_here);
+            alike = reads_over (AreAlike (read_from m j)) (subst (AreAlike (read_from m j)) (sym unchanged) (AreAlike-filled filled_back));
+            aligns = reads_over (λ (s : State). align_at s ≡ align_at (read_from m j)) (ap align_at unchanged ∙ (λ i a. seen_back.aligns a i));
             unchanged = λ a from _ side. same-byte n q (over.memory.start ∙ core.costs.start) (over.memory.bytes ∙ bytes) a ∙ beside_in a from side;
           }

@@ -27,19 +27,14 @@ pub record KeepsHeap (before after : HeapView) : Type 0 where
   -- word accesses are added to the count
   pub grow : before.memory.touches ≤ after.memory.touches
 
--- what a call keeps that leaves no byte without a value
-pub record KeepsBytes (before after : HeapView) : Type 0 where
-  -- no byte becomes raw
-  pub raw : NoneBecomesRaw before after
-  -- if no byte of the memory was raw, none is
-  pub settled : IsSettled before.memory → IsSettled after.memory
-
 -- what a call on payloads keeps that copies no byte of the memory
 pub record KeepsFrame (before after : HeapView) : Type 0 where
   -- it is the same heap
   pub heap : KeepsHeap before after
   -- no byte becomes raw
-  pub bytes : KeepsBytes before after
+  pub raw : NoneBecomesRaw before after
+  -- if no byte of the memory was raw, none is
+  pub settled : IsSettled before.memory → IsSettled after.memory
   -- it has the same chunks
   pub chunks : after.state.chunks ≡ before.state.chunks
   -- no byte is copied
@@ -56,32 +51,31 @@ pub record KeepsFrameBeside (before after : HeapView) (r : Range) : Type 0 where
   -- no byte is copied
   pub copied : after.memory.copied ≡ before.memory.copied
 
--- how many bytes a reallocation copies, by the counts before and after it
-pub record CopiesToMove (state : State) (was : PayloadView) (addr size before after : ℕ) : Type 0 where
-  -- at most those of the payload
-  pub copied : after ≤ before + length was.bytes
-  -- copied bytes are added to the count
-  pub grow_copied : before ≤ after
-  -- none, if it has room to stay
-  pub stays : HasRoomToStay state addr size → after ≡ before
-
 -- what a reallocation keeps that may copy the payload's bytes in the memory
 pub record KeepsFrameMoving (before after : HeapView) (addr size : ℕ) (was : PayloadView) : Type 0 where
   -- it is the same heap
   pub heap : KeepsHeap before after
   -- no byte becomes raw
-  pub bytes : KeepsBytes before after
+  pub raw : NoneBecomesRaw before after
+  -- if no byte of the memory was raw, none is
+  pub settled : IsSettled before.memory → IsSettled after.memory
   -- it has the same chunks
   pub chunks : after.state.chunks ≡ before.state.chunks
-  -- no byte is copied but those of the payload
-  pub copied : CopiesToMove before.state was addr size before.memory.copied after.memory.copied
+  -- at most the payload's bytes are copied
+  pub copied : after.memory.copied ≤ before.memory.copied + length was.bytes
+  -- copied bytes are added to the count
+  pub grow_copied : before.memory.copied ≤ after.memory.copied
+  -- none is copied, if the payload has room to stay
+  pub stays : HasRoomToStay before.state addr size → after.memory.copied ≡ before.memory.copied
 
 -- what a call on pools keeps
 pub record KeepsPayloads (before after : HeapView) : Type 0 where
   -- it is the same heap
   pub heap : KeepsHeap before after
   -- no byte becomes raw
-  pub bytes : KeepsBytes before after
+  pub raw : NoneBecomesRaw before after
+  -- if no byte of the memory was raw, none is
+  pub settled : IsSettled before.memory → IsSettled after.memory
   -- the same payloads are live, with their alignments
   pub aligns : align_at after.state ≡ align_at before.state
   -- as many payloads are live

@@ -1,5 +1,5 @@
 -- The heap and its payloads, as contracts see them, and the steps that the calls make.
-use Rattle.std.specs.Prelude.{◌≡◌, ◌+◌, ◌≤◌, ◌<◌, ℕ, Bool, true, false, ◌&&◌, ◌||◌, leb, List, length, Option, Some, None, All, IfSome}
+use Rattle.std.specs.Prelude.{◌≡◌, ◌+◌, ◌≤◌, ◌<◌, ℕ, Bool, true, false, ◌&&◌, ◌||◌, leb, List, length, Option, Some, None, Result, Ok, Err, All, IfSome}
 use Rattle.rlsf_base.specs.Ledger.{Entry, Extent, IsIssued}
 use Rattle.rlsf_base.specs.Changes.{AreBytesHere}
 use Rattle.rlsf_base.specs.OpenSpace.{Home, home_of, IsAway}
@@ -8,11 +8,11 @@ use Rattle.rlsf_base.specs.Piece.{Piece}
 use Rattle.rlsf_base.specs.declared.memory.range.Range.{Range}
 use Rattle.rlsf_base.specs.Range.{end_of, range_at}
 use Rattle.rlsf_model_sizes.specs.SizeClass.{IsValid}
-use Rattle.rlsf_base.specs.Space.{Space, out_at}
+use Rattle.rlsf_base.specs.Space.{Space, out_at, range_of}
 use Rattle.rlsf_model.specs.Lists.{IsIn as IsListed}
 use Rattle.rlsf_model.specs.Sized.{live_count}
 use Rattle.rlsf_model.specs.State.{State, Used, usable}
-use Rattle.rlsf_model.specs.WellFormed.{coverage, itself}
+use Rattle.rlsf_model.specs.WellFormed.{coverage, IsWellFormed, itself}
 use Rattle.rlsf_table.specs.Table.{Table}
 use Rattle.rlsf_blocks.specs.Laws.{read_from}
 use Rattle.rlsf_blocks.specs.StandsFor.{contents, StandsFor}
@@ -44,13 +44,9 @@ IsOutsideChunks s a = coverage itself s.chunks a ≡ 0
 abbrev pub OwnsRest : Space → State → Type 0
 OwnsRest m s = (a : ℕ) → m.start ≤ a → IsOutsideChunks s a → is_own (out_at m a) ≡ true
 
--- whether a byte is lent to a heap: it is the memory's own, or in a chunk
-abbrev pub is_lent_at : Space → State → ℕ → Bool
-is_lent_at m s a = leb m.start a && (is_own (out_at m a) || leb 1 (coverage itself s.chunks a))
-
--- which bytes are lent to the heap
+-- which bytes are lent to the heap: those that are the memory's own, or in a chunk
 unfoldable pub lent_bytes : HeapView → ℕ → Bool
-lent_bytes v = is_lent_at v.memory v.state
+lent_bytes v = λ a. leb v.memory.start a && (is_own (out_at v.memory a) || leb 1 (coverage itself v.state.chunks a))
 
 -- each byte of a range is among these
 unfoldable pub AreAmong : (ℕ → Bool) → Range → Type 0
@@ -93,6 +89,11 @@ abbrev pub addr_of : Option PayloadView → Option ℕ
 addr_of None = None
 addr_of (Some p) = Some p.start
 
+-- the address of a reallocated payload, or none if the reallocation was refused
+abbrev pub moved_to : Result PayloadView PayloadView → Option ℕ
+moved_to (Ok p) = Some p.start
+moved_to (Err p) = None
+
 -- each payload in a list is one of this heap
 abbrev pub AreOf : Identity → List (Option PayloadView) → Type 0
 AreOf heap slots = All (λ slot. IfSome slot (λ payload. payload.identity ≡ heap)) slots
@@ -117,11 +118,15 @@ pub record IsHeapOf (fl_bits sl_bits fllen sllen : ℕ) (m : Space) (t : Table) 
   pub counted : count ≡ live_count (read_from m s)
   pub rest : lent ≡ false → OwnsRest m s
 
--- memory and class table represent the state, which is well-formed
+-- the state is well-formed in the heap's memory
 unfoldable pub Stands : ℕ → ℕ → HeapView → Type 0
-Stands fllen sllen v = StandsFor fllen sllen (contents v.memory v.table) v.state
+Stands fllen sllen v = IsWellFormed fllen sllen (range_of v.memory) v.state
 
--- the model's step leads to the state after, which memory and table represent
+-- the words in the memory and the class table encode the state
+unfoldable pub IsRepresented : ℕ → ℕ → HeapView → Type 0
+IsRepresented fllen sllen v = StandsFor fllen sllen (contents v.memory v.table) v.state
+
+-- the model's step leads to the state after, which is well-formed
 unfoldable pub Steps : ℕ → ℕ → HeapView → (State → Type 0) → Type 0
 Steps fllen sllen after step = step after.state × Stands fllen sllen after
 

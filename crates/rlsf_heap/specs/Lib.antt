@@ -6,7 +6,6 @@ pub mod Kept
 pub mod Lending
 pub mod Loans
 pub mod Lends
-pub mod Reallocation
 pub mod Pools
 pub mod Raw
 pub mod Renewed

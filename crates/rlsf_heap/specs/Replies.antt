@@ -1,6 +1,8 @@
 -- What the allocations and reallocations of a heap return.
-use Rattle.std.specs.Prelude.{◌≡◌, ◌≢◌, ℕ, ◌+◌, ◌%◌, ◌<◌, ◌≤◌, length, replicate, slice_index, Some, None}
+use Rattle.std.specs.Prelude.{◌≡◌, ◌≢◌, ℕ, ◌+◌, ◌%◌, ◌<◌, ◌≤◌, length, min, replicate, slice_index, Some, None}
+use Rattle.rlsf_base.specs.Changes.{AreBytesHere}
 use Rattle.rlsf_base.specs.Layout.{IsLayout}
+use Rattle.rlsf_base.specs.Range.{range_at}
 use Rattle.rlsf_model_sizes.specs.Sizes.{request_size}
 use Rattle.rlsf_model.specs.Callers.{align_at, bytes_at}
 use Rattle.rlsf_model.specs.Reallocate.{Keeps}
@@ -9,7 +11,6 @@ use Rattle.rlsf_model.specs.State.{AreAlike, State}
 pub use Rattle.rlsf_tlsf.specs.Bounds.{IfWithinBounds as WithinBounds}
 use Rattle.rlsf_heap.specs.Heap.{HeapView, IsOwners, IsWritten, LiesInChunk, PayloadView, payload_range}
 use Rattle.rlsf_heap.specs.Kept.{KeepsBytesBeside}
-use Rattle.rlsf_heap.specs.Reallocation.{IsKeptHere}
 use Rattle.rlsf_heap.specs.Settled.{IsSettled}
 
 -- a refused call: nothing that callers see is another
@@ -73,12 +74,16 @@ pub record IsDeallocated (before after : HeapView) (addr : ℕ) (p : PayloadView
   -- the blocks of live payloads have fewer bytes: by those that its bytes are sought with, or more
   pub freed : live_bytes after.state + request_size (length p.bytes) 16 ≤ live_bytes before.state
 
--- what a payload is after a reallocation to a size, with an alignment
-pub record IsReallocated (state : State) (was : PayloadView) (size align : ℕ) (p : PayloadView) : Type 0 where
+-- what every payload is that has another size
+pub record IsResized (before after : HeapView) (size align : ℕ) (was p : PayloadView) : Type 0 where
+  -- it is of this heap
+  pub identity : p.identity ≡ before.identity
+  -- it has the requested alignment
+  pub requested : p.align ≡ align
   -- it is live
-  pub live : align_at state p.start ≡ Some align
+  pub live : align_at after.state p.start ≡ Some align
   -- it is as long as the state says
-  pub long : length p.bytes ≡ length (bytes_at state p.start)
+  pub long : length p.bytes ≡ length (bytes_at after.state p.start)
   -- its address is a multiple of the alignment
   pub aligned : p.start % align ≡ 0
   -- it is long enough
@@ -89,35 +94,12 @@ pub record IsReallocated (state : State) (was : PayloadView) (size align : ℕ) 
   pub kept : Keeps was.bytes p.bytes
   -- each of them is as it was
   pub each : (k : ℕ) → k < length was.bytes → k < length p.bytes → slice_index p.bytes k ≡ slice_index was.bytes k
-
--- which bytes of a reallocated payload are here
-pub record IsReallocatedHere (before : HeapView) (was p : PayloadView) : Type 0 where
-  -- those that were kept
-  pub here : IsKeptHere was p
-  -- all, if it got no longer
+  -- they are here
+  pub here : AreBytesHere p.out 0 (min (length was.bytes) (length p.bytes))
+  -- all its bytes are here, if it got no longer
   pub shrunk : length p.bytes ≤ length was.bytes → IsWritten p
-  -- all, if no byte of the memory was raw
+  -- all its bytes are here, if no byte of the memory was raw
   pub written : IsSettled before.memory → IsWritten p
-
--- what a payload that may move from an address leaves
-pub record LeavesOthers (before after : State) (addr to : ℕ) : Type 0 where
-  -- it isn't at the address 0
-  pub some : to ≢ 0
-  -- none was live where it is now
-  pub new : to ≢ addr → align_at before to ≡ None
-  -- the others are live as before
-  pub aligns : (a : ℕ) → a ≢ addr → a ≢ to → align_at after a ≡ align_at before a
-
--- what every payload is that has another size
-pub record IsResized (before after : HeapView) (size align : ℕ) (was p : PayloadView) : Type 0 where
-  -- it is of this heap
-  pub identity : p.identity ≡ before.identity
-  -- it has the alignment that it had
-  pub requested : p.align ≡ align
-  -- it is live, long enough, and has the kept bytes
-  pub made : IsReallocated after.state was size align p
-  -- which of its bytes are here
-  pub here : IsReallocatedHere before was p
 
 -- what a payload is that has another size, and may have moved
 pub record IsResizedOrMoved (before after : HeapView) (addr size align : ℕ) (was p : PayloadView) : Type 0 where
@@ -125,8 +107,12 @@ pub record IsResizedOrMoved (before after : HeapView) (addr size align : ℕ) (w
   pub layout : IsLayout size align
   -- it has the size
   pub resized : IsResized before after size align was p
-  -- the other payloads are left
-  pub others : LeavesOthers before.state after.state addr p.start
+  -- it isn't at the address 0
+  pub some : p.start ≢ 0
+  -- if it moved, none was live where it is now
+  pub new : p.start ≢ addr → align_at before.state p.start ≡ None
+  -- the others are live as before
+  pub aligns : (a : ℕ) → a ≢ addr → a ≢ p.start → align_at after.state a ≡ align_at before.state a
 
 -- what a payload is that has another size, at its address
 pub record IsResizedInPlace (before after : HeapView) (addr size align : ℕ) (was p : PayloadView) : Type 0 where
@@ -139,8 +125,12 @@ pub record IsResizedInPlace (before after : HeapView) (addr size align : ℕ) (w
   -- the same payloads are live, with their alignments
   pub aligns : align_at after.state ≡ align_at before.state
 
--- the payload of a refused reallocation is as it was, and so are all others
-pub record IsReturned (before after : State) (addr : ℕ) (was p : PayloadView) : Type 0 where
+-- a refused reallocation: the payload is as it was, and so are all others
+pub record IsRefused (before after : HeapView) (addr align : ℕ) (was p : PayloadView) : Type 0 where
+  -- the payload is of this heap
+  pub identity : p.identity ≡ before.identity
+  -- it has the alignment that it had
+  pub requested : p.align ≡ align
   -- it is where it was
   pub start : p.start ≡ addr
   -- it has the bytes that it had
@@ -148,20 +138,11 @@ pub record IsReturned (before after : State) (addr : ℕ) (was p : PayloadView) 
   -- all are here
   pub written : IsWritten p
   -- chunks and used blocks are the same, and the free blocks
-  pub alike : AreAlike before after
+  pub alike : AreAlike before.state after.state
   -- the same payloads are live, with their alignments
-  pub aligns : align_at after ≡ align_at before
-
--- a refused reallocation
-pub record IsRefused (before after : HeapView) (addr align : ℕ) (was p : PayloadView) : Type 0 where
-  -- the payload is of this heap
-  pub identity : p.identity ≡ before.identity
-  -- it has the alignment that it had
-  pub requested : p.align ≡ align
-  -- it is as it was
-  pub returned : IsReturned before.state after.state addr was p
+  pub aligns : align_at after.state ≡ align_at before.state
   -- no byte of the memory beside it is another
-  pub unchanged : KeepsBytesBeside before after (payload_range was)
+  pub unchanged : KeepsBytesBeside before after (range_at was.start (length was.bytes))
 
 -- what is so of each payload that is out
 pub record IsOut (s : State) (p : PayloadView) : Type 0 where

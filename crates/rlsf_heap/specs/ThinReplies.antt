@@ -6,7 +6,7 @@ use Rattle.rlsf_model.specs.Release.{Deallocates}
 use Rattle.rlsf_model.specs.State.{State}
 use Rattle.rlsf_heap.specs.declared.thin.ThinPayload.{ThinPayload}
 use Rattle.rlsf_heap.specs.Heap.{HeapView, IsWritten, PayloadView}
-use Rattle.rlsf_heap.specs.Replies.{IsReallocated, IsUnchanged, LeavesOthers}
+use Rattle.rlsf_heap.specs.Replies.{IsResized, IsUnchanged}
 
 -- the address of a reallocated payload, or none if the reallocation was refused
 abbrev pub thin_moved_to : Result ThinPayload ThinPayload → Option ℕ
@@ -33,14 +33,19 @@ pub record IsThinReply (P : PayloadView → Type 0) (p : ThinPayload) : Type 0 w
   -- what is so of it, if there is one
   pub made : p.of.start ≢ 0 → P p.of
 
+-- what a payload that may move from an address leaves
+pub record LeavesOthers (before after : State) (addr to : ℕ) : Type 0 where
+  -- it isn't at the address 0
+  pub some : to ≢ 0
+  -- none was live where it is now
+  pub new : to ≢ addr → align_at before to ≡ None
+  -- the others are live as before
+  pub aligns : (a : ℕ) → a ≢ addr → a ≢ to → align_at after a ≡ align_at before a
+
 -- what a payload is that moved into a new one
 pub record IsThinMoved (before after : HeapView) (addr size align : ℕ) (was p : PayloadView) : Type 0 where
-  -- it is of this heap
-  pub identity : p.identity ≡ before.identity
-  -- it has the requested alignment
-  pub requested : p.align ≡ align
-  -- it is live, long enough, and has the kept bytes
-  pub made : IsReallocated after.state was size align p
+  -- it has the size, and the requested alignment
+  pub resized : IsResized before after size align was p
   -- all its bytes are here
   pub written : IsWritten p
   -- it is another one

@@ -9,8 +9,8 @@ use Rattle.rlsf_model.specs.State.{State, Used, Holds}
 use Rattle.rlsf_heap.specs.declared.thin.ThinPayload.{ThinPayload}
 use Rattle.rlsf_heap.specs.Frame.{KeepsAllBounds}
 use Rattle.rlsf_heap.specs.Heap.{HeapView, IsWritten, PayloadView}
-use Rattle.rlsf_heap.specs.Replies.{IsReallocated, IsRefused, IsResized, LeavesOthers, WithinBounds}
-use Rattle.rlsf_heap.specs.ThinReplies.{MovesElsewhere}
+use Rattle.rlsf_heap.specs.Replies.{IsRefused, IsResized, WithinBounds}
+use Rattle.rlsf_heap.specs.ThinReplies.{LeavesOthers, MovesElsewhere}
 
 -- within bounds that include the size and both alignments, the state after is sized for what the state before was sized for
 abbrev pub StaysSized : ℕ → ℕ → ℕ → ℕ → State → State → Type 0
@@ -63,10 +63,8 @@ pub record IfBytesSuffice (s : State) (addr size len : ℕ) (is : Type 0) : Type
 
 -- what a payload is whose size changed, whatever its alignment was
 pub record IsResizedAny (before after : HeapView) (addr size align : ℕ) (was p : PayloadView) : Type 0 where
-  -- it is of this heap
-  pub identity : p.identity ≡ before.identity
-  -- it is live, long enough, and has the kept bytes
-  pub made : IsReallocated after.state was size p.align p
+  -- it has the size
+  pub resized : IsResized before after size p.align was p
   -- all its bytes are here
   pub written : IsWritten p
   -- the other payloads are left

@@ -13,8 +13,8 @@
 //!
 //! - `allocate`, `allocate_zeroed`, `allocate_thin`, `allocate_thin_zeroed`: `Replies`, `Frame`; model `Allocate`
 //! - `deallocate`, `deallocate_written`, `deallocate_thin`, `deallocate_thin_written`: `Replies`, `Frame`; model `Release`
-//! - `reallocate`, `reallocate_thin`: `Replies`, `Frame`, `Reallocation`; model `Reallocate`
-//! - `reallocate_no_move`, `reallocate_thin_no_move`: `Replies`, `Frame`, `Reallocation`; model `NoMove`
+//! - `reallocate`, `reallocate_thin`: `Replies`, `Frame`; model `Reallocate`
+//! - `reallocate_no_move`, `reallocate_thin_no_move`: `Replies`, `Frame`; model `NoMove`
 //! - `move_thin`: `ThinReplies`, `Frame`
 //! - `resize_thin_unknown_align`, `reallocate_thin_unknown_align`: `ThinUnknownAlign`, `Frame`
 //! - `allocate_units`, `deallocate_units`, `resize_units`: `Units`, `Frame`

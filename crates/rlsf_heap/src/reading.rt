@@ -26,7 +26,7 @@ impl<FLBitmap: BitPattern, SLBitmap: BitPattern, const FLLEN: usize, const SLLEN
     FLLEN,
     SLLEN,
 > {
-    ghost use Rattle.rlsf_heap.specs.Heap.{Stands};
+    ghost use Rattle.rlsf_heap.specs.Heap.{IsRepresented, Stands};
 
     /// Returns the number of live payloads: those that were allocated and not yet deallocated.
     ///
@@ -86,13 +86,14 @@ impl<FLBitmap: BitPattern, SLBitmap: BitPattern, const FLLEN: usize, const SLLEN
         NonZeroUsize::new(self.table.newest(fl, sl))
     }
 
-    /// Returns the memory, for reading. Its words and the class table represent the state. The bytes of live payloads are
-    /// out of it.
+    /// Returns the memory, for reading. Its words and the class table encode the state (`represented`). The bytes of live payloads
+    /// are out of it.
     ///
     /// Completes in constant time.
     pub fn memory_ref(&self) -> &OpenMemory
         ensures memory { result.now ≡ self.now.memory }
         ensures stands { Stands FLLEN SLLEN self.now }
+        ensures represented { IsRepresented FLLEN SLLEN self.now }
     {
         &self.memory
     }

@@ -3,8 +3,8 @@ ghost use Rattle.std.specs.Prelude.{◌≡◌, ◌≤◌, ◌+◌, IfErr, IfOk, 
 ghost use Rattle.rlsf_base.specs.Layout.{IsLayout};
 ghost use Rattle.rlsf_model.specs.NoMove.{ReallocatesWithoutMove};
 ghost use Rattle.rlsf_model.specs.Reallocate.{Reallocates};
-ghost use Rattle.rlsf_heap.specs.Heap.{IsWritten};
-ghost use Rattle.rlsf_heap.specs.Reallocation.{moved_to, owned_by};
+ghost use Rattle.rlsf_model.specs.State.{filled};
+ghost use Rattle.rlsf_heap.specs.Heap.{IsWritten, moved_to};
 ghost use Rattle.rlsf_heap.specs.Replies.{IsRefused, IsResizedInPlace, IsResizedOrMoved, WithinBounds};
 ghost use Rattle.rlsf_heap.specs.Frame.{KeepsFrame, KeepsFrameMoving, KeepsSized};
 
@@ -52,7 +52,7 @@ impl<FLBitmap: BitPattern, SLBitmap: BitPattern, const FLLEN: usize, const SLLEN
     pub fn reallocate(&mut self, payload: Payload, size: usize) -> Result<Payload, Payload>
         requires identity { payload.identity ≡ self.old.identity }
         requires written { IsWritten payload }
-        ensures step { Steps FLLEN SLLEN self.new (λ t. IsLayout size payload.align → Reallocates SLLEN (owned_by self.old.state payload) payload.start size (moved_to result) t) }
+        ensures step { Steps FLLEN SLLEN self.new (λ t. IsLayout size payload.align → Reallocates SLLEN (filled self.old.state payload.start payload.bytes) payload.start size (moved_to result) t) }
         ensures result { IfOk result (λ p. IsResizedOrMoved self.old self.new payload.start size payload.align payload p) }
         ensures room { WithinBounds SLLEN self.old.state size payload.align (IsLayout size payload.align → IsOk result) }
         ensures bounds { KeepsSized SLLEN self.old.state self.new.state size payload.align }
@@ -120,7 +120,7 @@ impl<FLBitmap: BitPattern, SLBitmap: BitPattern, const FLLEN: usize, const SLLEN
         requires identity { payload.identity ≡ self.old.identity }
         requires written { IsWritten payload }
         ensures step { Steps FLLEN SLLEN self.new (λ t. IsLayout size payload.align
-            → ReallocatesWithoutMove (owned_by self.old.state payload) payload.start size (moved_to result) t) }
+            → ReallocatesWithoutMove (filled self.old.state payload.start payload.bytes) payload.start size (moved_to result) t) }
         ensures result { IfOk result (λ p. IsResizedInPlace self.old self.new payload.start size payload.align payload p) }
         ensures bounds { KeepsSized SLLEN self.old.state self.new.state size payload.align }
         ensures refused { IfErr result (λ p. IsRefused self.old self.new payload.start payload.align payload p) }

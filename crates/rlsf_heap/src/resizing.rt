@@ -5,11 +5,11 @@ ghost use Rattle.rlsf_base.specs.Piece.{IsFull};
 ghost use Rattle.rlsf_model_sizes.specs.Rounding.{round32};
 ghost use Rattle.rlsf_model.specs.Callers.{align_at};
 ghost use Rattle.rlsf_model.specs.NoMove.{ReallocatesWithoutMove};
+ghost use Rattle.rlsf_model.specs.State.{filled};
 ghost use Rattle.rlsf_tlsf.specs.CoreResizes.{stayed_if};
 ghost use Rattle.rlsf_tlsf.specs.Cores.{found_cost};
 ghost use Rattle.rlsf_heap.specs.Frame.{KeepsAllBounds, KeepsFrame, KeepsSized};
 ghost use Rattle.rlsf_heap.specs.Heap.{IsTicketOf, payload_view};
-ghost use Rattle.rlsf_heap.specs.Reallocation.{owned_by};
 ghost use Rattle.rlsf_heap.specs.Replies.{IsRefused};
 ghost use Rattle.rlsf_heap.specs.ThinUnknownAlign.{IfBytesSuffice, IsResizedThere, renewed_entries};
 
@@ -71,7 +71,7 @@ impl<FLBitmap: BitPattern, SLBitmap: BitPattern, const FLLEN: usize, const SLLEN
         requires written { IsFull part }
         requires align { IfSome align (λ a. ticket.align ≡ a) }
         ensures step { Steps FLLEN SLLEN self.new
-            (ReallocatesWithoutMove (owned_by self.old.state (payload_view part ticket.align ticket.name)) part.start layout.size (stayed_if result.0 part.start)) }
+            (ReallocatesWithoutMove (filled self.old.state part.start part.bytes) part.start layout.size (stayed_if result.0 part.start)) }
         ensures result { result.0 ≡ true → IsResizedThere self.old self.new part.start layout.size (payload_view part ticket.align ticket.name)
             (payload_view result.1 result.2.align result.2.name) }
         ensures refused { result.0 ≡ false → IsRefused self.old self.new part.start ticket.align (payload_view part ticket.align ticket.name)

@@ -3,8 +3,8 @@ ghost use Rattle.std.specs.Prelude.{◌≡◌, ◌≢◌, ◌≤◌, ◌+◌, No
 ghost use Rattle.rlsf_base.specs.Layout.{IsLayout};
 ghost use Rattle.rlsf_model.specs.NoMove.{ReallocatesWithoutMove};
 ghost use Rattle.rlsf_model.specs.Reallocate.{Keeps, Reallocates};
+ghost use Rattle.rlsf_model.specs.State.{filled};
 ghost use Rattle.rlsf_heap.specs.Heap.{IsWritten};
-ghost use Rattle.rlsf_heap.specs.Reallocation.{owned_by};
 ghost use Rattle.rlsf_heap.specs.Replies.{IsRefused, IsResizedInPlace, IsResizedOrMoved, WithinBounds};
 ghost use Rattle.rlsf_heap.specs.Settled.{IsSettled};
 ghost use Rattle.rlsf_heap.specs.ThinReplies.{IsLeft, IsThinMoved, IsThin, MovesElsewhere, thin_moved_to};
@@ -60,7 +60,7 @@ impl<FLBitmap: BitPattern, SLBitmap: BitPattern, const FLLEN: usize, const SLLEN
         requires some { (payload.of.start ≡ addr) × (addr ≢ 0) × (payload.of.align ≡ align) }
         requires heap { payload.of.identity ≡ self.old.identity }
         requires written { IsWritten payload.of }
-        ensures step { Steps FLLEN SLLEN self.new (λ t. IsLayout size align → Reallocates SLLEN (owned_by self.old.state payload.of) addr size (thin_moved_to result) t) }
+        ensures step { Steps FLLEN SLLEN self.new (λ t. IsLayout size align → Reallocates SLLEN (filled self.old.state payload.of.start payload.of.bytes) addr size (thin_moved_to result) t) }
         ensures result { IfOk result (λ p. IsThin (λ of. IsResizedOrMoved self.old self.new addr size align payload.of of) p) }
         ensures room { WithinBounds SLLEN self.old.state size align (IsLayout size align → IsOk result) }
         ensures bounds { KeepsSized SLLEN self.old.state self.new.state size align }
@@ -95,7 +95,7 @@ impl<FLBitmap: BitPattern, SLBitmap: BitPattern, const FLLEN: usize, const SLLEN
         requires some { (payload.of.start ≡ addr) × (addr ≢ 0) × (payload.of.align ≡ align) }
         requires heap { payload.of.identity ≡ self.old.identity }
         requires written { IsWritten payload.of }
-        ensures step { Steps FLLEN SLLEN self.new (λ t. IsLayout size align → ReallocatesWithoutMove (owned_by self.old.state payload.of) addr size (thin_moved_to result) t) }
+        ensures step { Steps FLLEN SLLEN self.new (λ t. IsLayout size align → ReallocatesWithoutMove (filled self.old.state payload.of.start payload.of.bytes) addr size (thin_moved_to result) t) }
         ensures result { IfOk result (λ p. IsThin (λ of. IsResizedInPlace self.old self.new addr size align payload.of of) p) }
         ensures bounds { KeepsSized SLLEN self.old.state self.new.state size align }
         ensures refused { IfErr result (λ p. IsThin (λ of. IsRefused self.old self.new addr align payload.of of) p) }

@@ -1,8 +1,8 @@
 //! Reallocation of payloads that are known by their address alone, whatever their alignment is.
 ghost use Rattle.std.specs.Prelude.{◌≡◌, ◌≢◌, ◌≤◌, ◌+◌, None, length, IfErr, IfOk, IsOk};
 ghost use Rattle.rlsf_model.specs.NoMove.{ReallocatesWithoutMove};
+ghost use Rattle.rlsf_model.specs.State.{filled};
 ghost use Rattle.rlsf_heap.specs.Heap.{IsWritten};
-ghost use Rattle.rlsf_heap.specs.Reallocation.{owned_by};
 ghost use Rattle.rlsf_heap.specs.Settled.{IsSettled};
 ghost use Rattle.rlsf_heap.specs.ThinReplies.{IsThin, thin_moved_to};
 ghost use Rattle.rlsf_heap.specs.ThinUnknownAlign.{IfBytesSuffice, HasRoomAny, IsRefusedAny, IsRefusedThere, IsResizedAny, IsResizedThere, KeepsSizedAny, StaysOrMoves};
@@ -40,7 +40,7 @@ impl<FLBitmap: BitPattern, SLBitmap: BitPattern, const FLLEN: usize, const SLLEN
         requires some { (payload.of.start ≡ addr) × (addr ≢ 0) }
         requires heap { payload.of.identity ≡ self.old.identity }
         requires written { IsWritten payload.of }
-        ensures step { Steps FLLEN SLLEN self.new (ReallocatesWithoutMove (owned_by self.old.state payload.of) addr layout.size (thin_moved_to result)) }
+        ensures step { Steps FLLEN SLLEN self.new (ReallocatesWithoutMove (filled self.old.state payload.of.start payload.of.bytes) addr layout.size (thin_moved_to result)) }
         ensures result { IfOk result (λ p. IsThin (λ of. IsResizedThere self.old self.new addr layout.size payload.of of) p) }
         ensures room { IfBytesSuffice self.old.state addr layout.size (length payload.of.bytes) (IsOk result) }
         ensures bounds { KeepsSized SLLEN self.old.state self.new.state layout.size payload.of.align }
@@ -82,7 +82,7 @@ impl<FLBitmap: BitPattern, SLBitmap: BitPattern, const FLLEN: usize, const SLLEN
         requires heap { payload.of.identity ≡ self.old.identity }
         requires written { IsWritten payload.of }
         requires settled { IsSettled self.old.memory }
-        ensures step { Steps FLLEN SLLEN self.new (StaysOrMoves SLLEN (owned_by self.old.state payload.of) addr layout.size layout.align (thin_moved_to result)) }
+        ensures step { Steps FLLEN SLLEN self.new (StaysOrMoves SLLEN (filled self.old.state payload.of.start payload.of.bytes) addr layout.size layout.align (thin_moved_to result)) }
         ensures result { IfOk result (λ p. IsThin (λ of. IsResizedAny self.old self.new addr layout.size layout.align payload.of of) p) }
         ensures room { HasRoomAny SLLEN self.old.state addr layout.size layout.align (length payload.of.bytes) result }
         ensures bounds { KeepsSizedAny SLLEN self.old.state self.new.state layout.size payload.of.align layout.align }

@@ -17,10 +17,10 @@ pub use Rattle.rlsf_model.specs.Sized.{IsSizedFor, IsSizedForBudget, live_bytes,
 pub use Rattle.rlsf_model.specs.State.{State}
 -- of a heap and its payloads
 pub use Rattle.rlsf_heap.specs.Heap.{HeapView, Identity, IsLent, IsUsable, IsWritten, PayloadView, lent_bytes, payload_range}
-pub use Rattle.rlsf_heap.specs.Replies.{IsAllocated, IsAllocatedZeroed, IsDeallocated, IsGone, IsOut, IsReallocated, IsRefused, IsResized}
-pub use Rattle.rlsf_heap.specs.Replies.{IsResizedInPlace, IsResizedOrMoved, IsReturned, IsUnchanged, LeavesOthers, WithinBounds}
+pub use Rattle.rlsf_heap.specs.Replies.{IsAllocated, IsAllocatedZeroed, IsDeallocated, IsGone, IsOut, IsRefused, IsResized}
+pub use Rattle.rlsf_heap.specs.Replies.{IsResizedInPlace, IsResizedOrMoved, IsUnchanged, WithinBounds}
 pub use Rattle.rlsf_tlsf.specs.Bounds.{IfWithinBudget, KeepsBudgets, TakesRoom}
-pub use Rattle.rlsf_heap.specs.Frame.{AddsRoom, CopiesToMove, KeepsAllBounds, KeepsBounds, KeepsBytes, KeepsFrame, KeepsFrameBeside, KeepsFrameMoving}
+pub use Rattle.rlsf_heap.specs.Frame.{AddsRoom, KeepsAllBounds, KeepsBounds, KeepsFrame, KeepsFrameBeside, KeepsFrameMoving}
 pub use Rattle.rlsf_heap.specs.Frame.{KeepsHeap, KeepsPayloads, KeepsRoom, KeepsSized}
 pub use Rattle.rlsf_heap.specs.Lending.{HasPool, IsLentTo, IsReclaimed, ReclaimsPool}
 pub use Rattle.rlsf_heap.specs.Settled.{IsSettled}

@@ -36,6 +36,6 @@ pub narrow_or_wide : (fllen sllen : ℕ) (v : HeapView) → Stands fllen sllen v
 unfolding Stands
 narrow_or_wide fllen sllen v stands addr align is low =
     let (u, held, aligned) = align_at-live v.state addr align is in
-    let placed = placed_by u (stands.well_formed.used u held.0) (subst (λ n. 16 ≤ n) (sym aligned) low) in
+    let placed = placed_by u (stands.used u held.0) (subst (λ n. 16 ≤ n) (sym aligned) low) in
     subst (λ (p : ℕ). ((p % 32 ≢ 0) × (align ≡ 16)) ⊎ ((p % 32 ≡ 0) × (16 < align))) held.1
     (subst (λ (n : ℕ). ((u.payload % 32 ≢ 0) × (n ≡ 16)) ⊎ ((u.payload % 32 ≡ 0) × (16 < n))) aligned placed)

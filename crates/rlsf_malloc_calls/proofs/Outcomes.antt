@@ -18,7 +18,7 @@ use Rattle.rlsf_model.specs.State.{State}
 use Rattle.rlsf_heap.specs.Heap.{AreAmong, HeapView, IsLent, IsWritten, PayloadView, Stands, Steps}
 use Rattle.rlsf_heap.specs.Lending.{ChangesOutside}
 use Rattle.rlsf_heap.specs.Pools.{RemovesIfIdle}
-use Rattle.rlsf_heap.specs.Frame.{KeepsBytes, KeepsFrame, KeepsHeap}
+use Rattle.rlsf_heap.specs.Frame.{KeepsFrame, KeepsHeap}
 use Rattle.rlsf_heap.specs.Replies.{IsAllocated, IsUnchanged}
 use Rattle.rlsf_heap.specs.Settled.{IsSettled}
 use Rattle.rlsf_heap.specs.Thin.{reply_of}
@@ -71,9 +71,9 @@ all_out_settled m is a from own = elim (cases_lt (a - m.start) (length m.bytes))
 ]
 
 -- a heap that is kept is the same one
-pub kept_heap : {old new : HeapView} → KeepsHeap old new → KeepsBytes old new → IsReady old → IsSameHeap old new
-kept_heap {old = old} {new = new} kept bytes ready =
-    same_heap old new kept.identity kept.place (bytes.settled ready) kept.lent (λ r is. subst (λ (bs : ℕ → Bool). AreAmong bs r) (sym kept.lent_bytes) is)
+pub kept_heap : {old new : HeapView} → KeepsHeap old new → (IsSettled old.memory → IsSettled new.memory) → IsReady old → IsSameHeap old new
+kept_heap {old = old} {new = new} kept settled ready =
+    same_heap old new kept.identity kept.place (settled ready) kept.lent (λ r is. subst (λ (bs : ℕ → Bool). AreAmong bs r) (sym kept.lent_bytes) is)
 
 pub allocated : (fllen sllen : ℕ) (old new : HeapView) (size align : ℕ) (p : PayloadView) → IsReady old → IsLayout size align
     → Steps fllen sllen new (machine.Allocates sllen old.state size align (reply_of p.start)) → (p.start ≢ 0 → IsWritten p)
@@ -82,7 +82,7 @@ pub allocated : (fllen sllen : ℕ) (old new : HeapView) (size align : ℕ) (p :
 allocated fllen sllen old new size align p ready layout step written made frame refused = record {
   no_layout = λ never. absurd (never layout);
   step = λ l. step_of fllen sllen new (machine.Allocates sllen old.state size align (reply_of p.start)) step;
-  heap = kept_heap frame.heap frame.bytes ready;
+  heap = kept_heap frame.heap frame.settled ready;
   at = record { start = refl; heap = λ some. (made some).identity ∙ sym frame.heap.identity; written = written };
   new = λ some. (made some).new;
   sized = λ some. let m = made some in
@@ -180,7 +180,7 @@ pub part_lent : (v : HeapView) (r part : Range) → (r.start ≤ part.start) × 
 unfolding AreAmong
 part_lent v r part within is a low high = is a (omega (arith, low, within)) (omega (arith, high, within))
 
--- a step that led to a state leads to it, where a heap represents that state
+-- a step that led to a state leads to it, where that state is well-formed in a heap's memory
 pub steps_again : (fllen sllen : ℕ) (last new : HeapView) (P : State → Type 0) → new.state ≡ last.state → Steps fllen sllen last P → Stands fllen sllen new
     → Steps fllen sllen new P
 unfolding Steps

@@ -7,7 +7,7 @@ use Rattle.rlsf_base.specs.declared.memory.range.Range.{Range}
 use Rattle.rlsf_base.specs.Range.{end_of, range_at}
 use Rattle.rlsf_model_sizes.specs.Rounding.{round32}
 use Rattle.rlsf_model_sizes.specs.Sizes.{max_pool_size}
-use Rattle.rlsf_model.specs.Insert.{Appends, Inserts, aligned_part, appended, appended_bytes, bytes_taken, cut, end_of_last, extended, total_length, with_chunks}
+use Rattle.rlsf_model.specs.Insert.{Appends, Inserts, aligned_part, appended, appended_bytes, bytes_taken, cut, end_of_last, extended, with_chunks}
 use Rattle.rlsf_model.specs.Lists.{IsIn}
 use Rattle.rlsf_model.specs.State.{State}
 use Rattle.rlsf_model.specs.WellFormed.{coverage, itself}
@@ -34,18 +34,18 @@ module _ (fllen : ℕ) (r : Range) where
   cs = cut (max_pool_size fllen) (aligned_part r)
 
   -- how many bytes are taken, as an insert and as an append say it
-  taken-total : (n : ℕ) → reply_of n ≡ bytes_taken r.start cs → n ≡ total_length r.start cs
+  taken-total : (n : ℕ) → reply_of n ≡ bytes_taken r.start cs → n ≡ (end_of_last r.start cs - r.start)
   taken-total n told = go cs told
     where
-      go : (ds : List Range) → reply_of n ≡ bytes_taken r.start ds → n ≡ total_length r.start ds
+      go : (ds : List Range) → reply_of n ≡ bytes_taken r.start ds → n ≡ (end_of_last r.start ds - r.start)
       go [] e = let none = reply-none n e in omega (arith, none)
       go (d ∷ ds) e = reply-is n _ e
 
   -- no more than there are
-  total-few : total_length r.start cs ≤ r.len
+  total-few : (end_of_last r.start cs - r.start) ≤ r.len
   total-few = go cs refl
     where
-      go : (ds : List Range) → cs ≡ ds → total_length r.start ds ≤ r.len
+      go : (ds : List Range) → cs ≡ ds → (end_of_last r.start ds - r.start) ≤ r.len
       go [] is = omega arith
       go (d ∷ ds) is =
           let (c, i, ends) = ends_at_one d ds in
@@ -53,20 +53,20 @@ module _ (fllen : ℕ) (r : Range) where
           omega (arith, ends, from, to, some)
 
   -- up to behind the first multiple of 32, if there are some
-  total-past : (n : ℕ) → n ≡ total_length r.start cs → (n ≡ 0 → ⊥) → round32 r.start ≤ r.start + n
+  total-past : (n : ℕ) → n ≡ (end_of_last r.start cs - r.start) → (n ≡ 0 → ⊥) → round32 r.start ≤ r.start + n
   total-past n told some = go cs refl
     where
       go : (ds : List Range) → cs ≡ ds → round32 r.start ≤ r.start + n
-      go [] is = absurd (some (told ∙ ap (λ l. total_length r.start l) is ∙ omega arith))
+      go [] is = absurd (some (told ∙ ap (λ l. (end_of_last r.start l - r.start)) is ∙ omega arith))
       go (d ∷ ds) is =
           let (c, i, ends) = ends_at_one d ds in
           let (from, to, long) = IsIn-cut_within fllen (aligned_part r) c (subst (IsIn c) (sym is) i) in
-          let total : total_length r.start cs ≡ end_of_last (end_of d) ds - r.start = ap (λ l. total_length r.start l) is in
+          let total : (end_of_last r.start cs - r.start) ≡ end_of_last (end_of d) ds - r.start = ap (λ l. (end_of_last r.start l - r.start)) is in
           omega (arith, ends, from, told, total)
 
   module _ (s : State) (a : ℕ) (clear : coverage itself s.chunks a ≡ 0) where
     -- an address before or behind the chunks is in none
-    chunks-beside : (a < round32 r.start) ⊎ (r.start + total_length r.start cs ≤ a) → coverage itself (with_chunks cs s).chunks a ≡ 0
+    chunks-beside : (a < round32 r.start) ⊎ (r.start + (end_of_last r.start cs - r.start) ≤ a) → coverage itself (with_chunks cs s).chunks a ≡ 0
     chunks-beside (inl low) =
         let part = coverage-cut (aligned_part r) (IsWhole-aligned_part r) (max_pool_size fllen) a in
         omega (arith, coverage-with_chunks cs s a, clear, part, covers-before (aligned_part r) a low)
@@ -78,7 +78,7 @@ module _ (fllen : ℕ) (r : Range) where
             let last = range_at (aligned_part r).start (end_of_last (aligned_part r).start cs - (aligned_part r).start) in
             let few = coverage-cut_last (max_pool_size fllen) (aligned_part r) a in
             let ends : end_of_last (aligned_part r).start cs ≡ end_of_last (end_of d) ds = ap (λ l. end_of_last (aligned_part r).start l) is in
-            let total : total_length r.start cs ≡ end_of_last (end_of d) ds - r.start = ap (λ l. total_length r.start l) is in
+            let total : (end_of_last r.start cs - r.start) ≡ end_of_last (end_of d) ds - r.start = ap (λ l. (end_of_last r.start l - r.start)) is in
             elim (cases_lt a (aligned_part r).start) [
               | inl low ↦ omega (arith, few, covers-before last a low)
               | inr from ↦ omega (arith, few, covers-behind last a (omega (arith, ends, total, high, from)))
@@ -109,8 +109,9 @@ module _ (fllen : ℕ) (r : Range) where
               omega (arith, new, coverage-extended r.start (r.len / 32 * 32) s a, off, clear),
         )
     appended-by (Some most) limited step =
-        let told : n ≡ total_length r.start (cut (Some most) (aligned_part r)) = step.answer ∙ ap (λ o. appended_bytes o r) limited in
-        let same : total_length r.start cs ≡ total_length r.start (cut (Some most) (aligned_part r)) = ap (λ o. total_length r.start (cut o (aligned_part r))) limited in
+        let told : n ≡ (end_of_last r.start (cut (Some most) (aligned_part r)) - r.start) = step.answer ∙ ap (λ o. appended_bytes o r) limited in
+        let same : end_of_last r.start cs - r.start ≡ end_of_last r.start (cut (Some most) (aligned_part r)) - r.start =
+        ap (λ o. end_of_last r.start (cut o (aligned_part r)) - r.start) limited in
         let after : t ≡ with_chunks (cut (Some most) (aligned_part r)) s = step.after ∙ ap (λ o. appended o r s) limited in
         let chunks : t ≡ with_chunks cs s = after ∙ ap (λ o. with_chunks (cut o (aligned_part r)) s) (sym limited) in (
           omega (arith, told, same, total-few),

@@ -15,8 +15,8 @@ module _ (fllen sllen : ℕ) (v : HeapView) (stands : Stands fllen sllen v) (siz
   no_choice : machine.choice sllen (request_size size align) v.state.free ≡ None
   unfolding Stands
   no_choice = choice-from_none sllen (request_size size align) v.state.free (λ g i reached.
-      let free = stands.well_formed.free g i in
-      let enough = Reaches-class_of sllen g.len free.some (request_size size align) stands.well_formed.row_length reached in
+      let free = stands.free g i in
+      let enough = Reaches-class_of sllen g.len free.some (request_size size align) stands.row_length reached in
       let below : g.len < 2 ^ (5 + fllen) = (IsValidClass-class_of sllen g.len free.some fllen).0 free.valid in
       let whole : 2 ^ (5 + fllen) ≡ 32 * 2 ^ fllen = pow-add 2 5 fllen in
       omega (arith, round32-le (size + (align - 16) + 16), free.whole.len))

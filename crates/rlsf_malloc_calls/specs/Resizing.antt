@@ -5,9 +5,8 @@ use Rattle.rlsf_model.specs.Callers.{align_at}
 use Rattle.rlsf_model.specs.NoMove.{ReallocatesWithoutMove}
 use Rattle.rlsf_model.specs.Reallocate.{Keeps, Reallocates}
 use Rattle.rlsf_model.specs.Sized.{live_count}
-use Rattle.rlsf_model.specs.State.{AreAlike}
+use Rattle.rlsf_model.specs.State.{AreAlike, filled}
 use Rattle.rlsf_heap.specs.Heap.{HeapView, IsWritten, PayloadView}
-use Rattle.rlsf_heap.specs.Reallocation.{owned_by}
 use Rattle.rlsf_heap.specs.Thin.{reply_of}
 use Rattle.rlsf_heap.specs.ThinUnknownAlign.{StaysOrMoves}
 use Rattle.rlsf_malloc_calls.specs.Calls.{AllocatesPayload, IsPayloadAt, IsSameHeap, IsSized, aligned_for}
@@ -39,7 +38,7 @@ pub record IsResizeRefused (before : HeapView) (p q : PayloadView) (after : Heap
 -- a reallocation of a payload of this alignment: 0 is returned exactly where there is no such layout or the model refuses it
 pub record Resizes (sllen : ℕ) (before : HeapView) (p : PayloadView) (size align to : ℕ) (q : PayloadView) (after : HeapView) : Type 0 where
   pub no_layout : (IsLayout size align → ⊥) → to ≡ 0
-  pub step : IsLayout size align → Reallocates sllen (owned_by before.state p) p.start size (reply_of to) after.state
+  pub step : IsLayout size align → Reallocates sllen (filled before.state p.start p.bytes) p.start size (reply_of to) after.state
   pub heap : IsSameHeap before after
   pub at : to ≢ 0 → q.start ≡ to
   pub resized : to ≢ 0 → IsPayloadResized before p size align q after
@@ -52,7 +51,7 @@ pub record Resizes (sllen : ℕ) (before : HeapView) (p : PayloadView) (size ali
 pub record ResizesWide (sllen : ℕ) (before : HeapView) (p : PayloadView) (size to : ℕ) (q : PayloadView) (after : HeapView) : Type 0 where
   pub stays : IsLayout size 16 → size ≤ length p.bytes → to ≡ p.start
   pub no_layout : (IsLayout size 16 → ⊥) → to ≡ 0
-  pub step : IsLayout size 16 → StaysOrMoves sllen (owned_by before.state p) p.start size 16 (reply_of to) after.state
+  pub step : IsLayout size 16 → StaysOrMoves sllen (filled before.state p.start p.bytes) p.start size 16 (reply_of to) after.state
   pub heap : IsSameHeap before after
   pub at : to ≢ 0 → q.start ≡ to
   pub there : to ≡ p.start → q.align ≡ p.align
@@ -79,7 +78,7 @@ pub record ResizesThere (before : HeapView) (p : PayloadView) (size to : ℕ) (q
   pub there : q.start ≡ p.start
   pub at : to ≢ 0 → to ≡ p.start
   pub no_layout : (IsLayout size 16 → ⊥) → to ≡ 0
-  pub step : IsLayout size 16 → ReallocatesWithoutMove (owned_by before.state p) p.start size (reply_of to) after.state
+  pub step : IsLayout size 16 → ReallocatesWithoutMove (filled before.state p.start p.bytes) p.start size (reply_of to) after.state
   pub heap : IsSameHeap before after
   pub resized : to ≢ 0 → IsPayloadResized before p size p.align q after
   pub refused : to ≡ 0 → IsResizeRefused before p q after

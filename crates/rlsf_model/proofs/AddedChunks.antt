@@ -3,7 +3,7 @@ use Rattle.std.proofs.Common.{◌≡◌, ℕ, ◌+◌, ◌-◌, ◌%◌, ◌<◌
 use Rattle.rlsf_base.specs.declared.memory.range.Range.{Range}
 use Rattle.rlsf_base.specs.Range.{end_of, range_at}
 use Rattle.rlsf_model_sizes.specs.Sizes.{max_pool_size}
-use Rattle.rlsf_model.specs.Insert.{body, bytes_taken, cut, end_of_last, with_chunk, with_chunks}
+use Rattle.rlsf_model.specs.Insert.{body, bytes_taken, cut, end_of_last, with_chunks}
 use Rattle.rlsf_model.specs.Laws.{first_length}
 use Rattle.rlsf_model.specs.Lists.{IsIn}
 use Rattle.rlsf_model.specs.State.{State}
@@ -11,6 +11,7 @@ use Rattle.rlsf_model.specs.WellFormed.{itself}
 use Rattle.rlsf_model.proofs.Chunks.{IsIn-with_chunks_old}
 use Rattle.rlsf_model.proofs.Coverage.{covers-inside, covers-some, coverage-IsIn}
 use Rattle.rlsf_model.proofs.Cuts.{IsIn-cut_within, chunks_are_cut_off_the_front, coverage-cut_last, end_of_last-cut}
+use Rattle.rlsf_model.proofs.Names.{with_chunk}
 
 -- ---- the last chunk
 

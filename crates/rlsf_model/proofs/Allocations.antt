@@ -1,14 +1,15 @@
 -- An allocation leaves a state well-formed.
-use Rattle.std.proofs.Common.{◌≡◌, ℕ, ◌-◌, ◌<◌, ◌≤◌, List, ◌∷◌, ◌++◌, Option, Some, None, length, arith, refl, sym, ◌∙◌, ap, subst, inl, inr}
+use Rattle.std.proofs.Common.{◌≡◌, ℕ, ◌-◌, ◌<◌, ◌≤◌, List, ◌∷◌, ◌++◌, Option, Some, None, length, arith, refl, sym, ◌∙◌, ap, subst, inl, inr, ◌+◌}
 use Rattle.rlsf_base.specs.declared.memory.range.Range.{Range}
 use Rattle.rlsf_model_sizes.specs.PowerOfTwo.{IsPowerOfTwo}
 use Rattle.rlsf_base.specs.Range.{end_of}
 use Rattle.rlsf_model_sizes.specs.SizeClass.{class_of}
 use Rattle.rlsf_model_sizes.specs.Sizes.{request_size}
+use Rattle.rlsf_model_sizes.specs.Rounding.{round32}
 use Rattle.rlsf_base.proofs.SizeClasses.Reach.{Reaches-class_of}
 use Rattle.rlsf_model.specs.Allocate.{has_class, choice, rest_behind, placed, given, Allocates}
 use Rattle.rlsf_model.specs.Lists.{IsIn, without}
-use Rattle.rlsf_model.specs.Payload.{payload_of, block_length}
+use Rattle.rlsf_model.specs.Payload.{payload_of}
 use Rattle.rlsf_model.specs.State.{State}
 use Rattle.rlsf_model.specs.WellFormed.{itself, IsWhole, IsUsed, IsWellFormed}
 use Rattle.rlsf_model.proofs.Changes.{reblocked, coverage-rest_behind, IsIn-rest_behind, IsApart-rest_behind, IsApart-within}
@@ -20,7 +21,7 @@ use Rattle.rlsf_model.proofs.Tiling.{tiling_of, free-le}
 module _ {fllen sllen : ℕ} {memory : Range} {s : State} (w : IsWellFormed fllen sllen memory s) (f : Range) (size align : ℕ) (power : IsPowerOfTwo align)
     (chosen : choice sllen (request_size size align) s.free ≡ Some f) where
   -- the block fits in the range
-  pub placed-fits : block_length f.start (payload_of f.start align) size ≤ f.len
+  pub placed-fits : round32 (payload_of f.start align - f.start + size) ≤ f.len
   placed-fits =
       let is = choice-some sllen (request_size size align) s.free f chosen in
       let free = w.free f is.is_in in

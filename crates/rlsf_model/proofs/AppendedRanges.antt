@@ -1,10 +1,11 @@
 -- What an append leaves of the bytes that chunks have.
+use Rattle.std.specs.Option.{option_map_or}
 use Rattle.std.proofs.Common.{◌≡◌, ℕ, zero, suc, ◌+◌, ◌*◌, ◌/◌, ◌≤◌, Option, Some, None, find, arith, refl, sym, ◌∙◌, ap, subst, inl, inr}
 use Rattle.std.proofs.lemmas.Bool.{eqb-true}
 use Rattle.rlsf_base.specs.declared.memory.range.Range.{Range}
 use Rattle.rlsf_base.specs.Range.{AreApart, end_of, range_at}
 use Rattle.rlsf_model_sizes.specs.Sizes.{max_pool_size}
-use Rattle.rlsf_model.specs.Insert.{aligned_part, appended, Appends, bytes_taken, cut, extended, grown_if, IsUntouched, with_chunks}
+use Rattle.rlsf_model.specs.Insert.{aligned_part, appended, Appends, bytes_taken, cut, extended, IsUntouched, with_chunks, grown}
 use Rattle.rlsf_model.specs.Join.{ends_at}
 use Rattle.rlsf_model.specs.State.{State}
 use Rattle.rlsf_model.specs.WellFormed.{covers, coverage, itself}
@@ -16,7 +17,8 @@ pub coverage-extended : (at n : ℕ) (s : State) (a : ℕ) → coverage itself (
 coverage-extended at zero s a = omega arith
 coverage-extended at (suc n) s a = go (find (ends_at at) s.chunks) refl
   where
-    go : (o : Option Range) → find (ends_at at) s.chunks ≡ o → coverage itself (grown_if o (suc n) s).chunks a ≤ covers (range_at at (suc n)) a + coverage itself s.chunks a
+    go : (o : Option Range) → find (ends_at at) s.chunks ≡ o
+        → coverage itself (option_map_or (λ c. grown c (suc n) s) o s).chunks a ≤ covers (range_at at (suc n)) a + coverage itself s.chunks a
     go None e = omega arith
     go (Some c) e =
         let ends : end_of c ≡ at = eqb-true (end_of c) at (find-some (ends_at at) c s.chunks e).1 in

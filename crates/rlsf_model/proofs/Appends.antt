@@ -1,4 +1,5 @@
 -- Inserting memory behind a chunk leaves a state well-formed.
+use Rattle.std.specs.Option.{option_map_or}
 use Rattle.std.proofs.Common.{◌≡◌, ℕ, zero, suc, ◌+◌, ◌-◌, ◌*◌, ◌/◌, ◌%◌, ◌^◌, ◌<◌, ◌≤◌, Option, Some, None, find, arith, refl, sym}
 use Rattle.std.proofs.Common.{◌∙◌, subst, inl, inr}
 use Rattle.std.proofs.lemmas.Bool.{eqb-true}
@@ -7,7 +8,7 @@ use Rattle.rlsf_base.specs.declared.memory.range.Range.{Range}
 use Rattle.rlsf_base.specs.Range.{end_of, range_at}
 use Rattle.rlsf_model_sizes.specs.Sizes.{max_pool_size}
 use Rattle.rlsf_base.proofs.SizeClasses.Reach.{IsValidClass-class_of}
-use Rattle.rlsf_model.specs.Insert.{cut, aligned_part, with_chunks, IsFresh, grown, grown_if, extended, appended, Appends}
+use Rattle.rlsf_model.specs.Insert.{cut, aligned_part, with_chunks, IsFresh, grown, extended, appended, Appends}
 use Rattle.rlsf_model.specs.Join.{ends_at}
 use Rattle.rlsf_model.specs.Lists.{without}
 use Rattle.rlsf_model.specs.State.{State}
@@ -75,7 +76,7 @@ module _ {fllen sllen : ℕ} {memory : Range} {s : State} (w : IsWellFormed flle
   IsWellFormed-extended zero large n32 fits = w
   IsWellFormed-extended (suc n) large n32 fits = go (find (ends_at r.start) s.chunks) refl
     where
-      go : (o : Option Range) → find (ends_at r.start) s.chunks ≡ o → IsWellFormed fllen sllen memory (grown_if o (suc n) s)
+      go : (o : Option Range) → find (ends_at r.start) s.chunks ≡ o → IsWellFormed fllen sllen memory (option_map_or (λ c. grown c (suc n) s) o s)
       go None e = w
       go (Some c) e =
           let ends : end_of c ≡ r.start = eqb-true (end_of c) r.start (find-some (ends_at r.start) c s.chunks e).1 in

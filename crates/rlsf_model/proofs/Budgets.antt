@@ -16,7 +16,7 @@ use Rattle.rlsf_model.specs.Reallocate.{Plan, plan, ReallocatesBy}
 use Rattle.rlsf_model.specs.Release.{Deallocates}
 use Rattle.rlsf_model.specs.Run.{Event, insert, append, allocate, deallocate, reallocate, fill, remove, trim, IsRemoval, Leads, MayCall, Runs}
 use Rattle.rlsf_model.specs.Sizing.{FrugalRunsAreNotDenied, ModestRunsAreNotDenied, LiveIsCounted, BoundedRunsAreNotDenied}
-use Rattle.rlsf_model.specs.State.{State, Used, Holds, others, filled_if, filled_at}
+use Rattle.rlsf_model.specs.State.{State, Used, Holds, others}
 use Rattle.rlsf_model.specs.WellFormed.{IsWellFormed}
 use Rattle.rlsf_model.proofs.Allocations.{Allocates-keeps}
 use Rattle.rlsf_model.proofs.Changes.{IsIn-others}
@@ -31,6 +31,7 @@ use Rattle.rlsf_model.proofs.Plans.{IsSoundPlan, IsSound-plan}
 use Rattle.rlsf_model.proofs.Steps.{steps_keep_well_formed}
 use Rattle.rlsf_model.proofs.Sums.{bytes_add_up, taken_free}
 use Rattle.rlsf_model.proofs.UsedBlocks.{Goes, IsGivenAlign, as_before, in_turn, one_filled, one_less, one_more, step_goes}
+use Rattle.rlsf_model.proofs.Names.{filled_if, filled_at}
 
 -- ---- one call
 

@@ -1,11 +1,11 @@
 -- The alignment and the bytes of the payload at an address.
-use Rattle.std.proofs.Common.{◌≡◌, ◌≢◌, ℕ, eqb, ◌+◌, ◌<◌, ◌≤◌, List, length, Option, Some, None, IsSome, true≢false, refl, sym, ◌∙◌, ap, subst}
+use Rattle.std.proofs.Common.{◌≡◌, ◌≢◌, ℕ, eqb, ◌+◌, ◌<◌, ◌≤◌, List, length, Option, Some, None, IsSome, true≢false, refl, sym, ◌∙◌, ap, subst, []}
 use Rattle.std.proofs.lemmas.Bool.{eq-eqb, eqb-true}
 use Rattle.std.proofs.lemmas.Option.{none-some}
-use Rattle.std.specs.Option.{option_map}
+use Rattle.std.specs.Option.{option_map, option_map_or}
 use Rattle.rlsf_base.specs.declared.memory.range.Range.{Range}
 use Rattle.rlsf_model_sizes.specs.PowerOfTwo.{IsPowerOfTwo}
-use Rattle.rlsf_model.specs.Callers.{IsSameMap, Payload, align_at, bytes_at, bytes_or_none, payload_at}
+use Rattle.rlsf_model.specs.Callers.{IsSameMap, Payload, align_at, bytes_at, payload_at}
 use Rattle.rlsf_model.specs.Reallocate.{Keeps, Reallocates}
 use Rattle.rlsf_model.specs.Allocate.{Allocates}
 use Rattle.rlsf_model.specs.Release.{Deallocates}
@@ -42,7 +42,7 @@ module _ {fllen sllen : ℕ} {memory : Range} {s : State} (w : IsWellFormed flle
 
   pub bytes_at-held : (addr : ℕ) (u : Used) → Holds s addr u → bytes_at s addr ≡ u.bytes
   unfolding bytes_at
-  bytes_at-held addr u held = ap bytes_or_none (payload_at-held w addr u held)
+  bytes_at-held addr u held = ap (λ (o : Option Payload). option_map_or (λ p. p.bytes) o []) (payload_at-held w addr u held)
 
 -- ---- what a change of the map does to both
 
@@ -52,7 +52,7 @@ align_at-map s t a b e = ap (option_map (λ (p : Payload). p.align)) e
 
 pub bytes_at-map : (s t : State) (a b : ℕ) → payload_at t a ≡ payload_at s b → bytes_at t a ≡ bytes_at s b
 unfolding bytes_at
-bytes_at-map s t a b e = ap bytes_or_none e
+bytes_at-map s t a b e = ap (λ (o : Option Payload). option_map_or (λ p. p.bytes) o []) e
 
 pub align_at-told : (s : State) (a : ℕ) (p : Payload) → payload_at s a ≡ Some p → align_at s a ≡ Some p.align
 unfolding align_at
@@ -60,7 +60,7 @@ align_at-told s a p e = ap (option_map (λ (q : Payload). q.align)) e
 
 pub bytes_at-told : (s : State) (a : ℕ) (p : Payload) → payload_at s a ≡ Some p → bytes_at s a ≡ p.bytes
 unfolding bytes_at
-bytes_at-told s a p e = ap bytes_or_none e
+bytes_at-told s a p e = ap (λ (o : Option Payload). option_map_or (λ p. p.bytes) o []) e
 
 pub align_at-none : (s : State) (a : ℕ) → payload_at s a ≡ None → align_at s a ≡ None
 unfolding align_at

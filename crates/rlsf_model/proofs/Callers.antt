@@ -5,12 +5,12 @@ use Rattle.std.proofs.lemmas.Option.{none-some}
 use Rattle.std.specs.Option.{option_map}
 use Rattle.rlsf_base.specs.declared.memory.range.Range.{Range}
 use Rattle.rlsf_model.specs.Allocate.{Places, placed}
-use Rattle.rlsf_model.specs.Callers.{Changes, Payload, payload_in, payload_at, IsSameMap, IsSet}
+use Rattle.rlsf_model.specs.Callers.{Changes, Payload, payload_at, IsSameMap, IsSet}
 use Rattle.rlsf_model.specs.Laws.{CallersSeeMap, CallReturns, PayloadIsInBlock}
 use Rattle.rlsf_model.specs.Lists.{IsIn}
 use Rattle.rlsf_model.specs.Reallocate.{Plan, plan, ReallocatesBy}
 use Rattle.rlsf_model.specs.Run.{Event, allocate, deallocate, reallocate, fill, Leads, MayCall, CallNames}
-use Rattle.rlsf_model.specs.State.{State, Used, Holds, used_with_bytes}
+use Rattle.rlsf_model.specs.State.{State, Used, Holds}
 use Rattle.rlsf_model.specs.WellFormed.{coverage, IsWellFormed}
 use Rattle.rlsf_model.proofs.Changes.{Holds-unique, IsIn-others}
 use Rattle.rlsf_model.proofs.Coverage.{covers-inside, coverage-IsIn, find-some, find-none}
@@ -21,6 +21,7 @@ use Rattle.rlsf_model.proofs.Payloads.{IsUsed-after_start, payload_of-after, blo
 use Rattle.rlsf_model.proofs.Steps.{steps_keep_well_formed}
 use Rattle.rlsf_model.proofs.Tiling.{block_of, tiling_of, used-le}
 use Rattle.rlsf_model.proofs.UsedBlocks.{Goes, one_more, stays, step_goes, was}
+use Rattle.rlsf_model.proofs.Names.{used_with_bytes, payload_in}
 
 -- a used block whose caller has the address, with that payload
 abbrev Has : State → ℕ → Payload → Type 0
@@ -52,7 +53,8 @@ payload_at-none s addr none = go (payload_at s addr) refl
     go (Some p) e = let (u, held, is) = payload_at-has s addr p e in absurd (none u held)
 
 pub payload_is_in_block : PayloadIsInBlock
-payload_is_in_block fllen sllen memory s addr p w = (payload_at-has s addr p, λ (u, held, is). payload_at-held w addr u held ∙ ap Some is)
+payload_is_in_block fllen sllen memory s addr p w =
+    (λ told. let (u, held, is) = payload_at-has s addr p told in (u, held, sym is), λ (u, held, is). payload_at-held w addr u held ∙ ap Some (sym is))
 
 -- behind the first used block of a well-formed state none has its address
 pub first_alone : {fllen sllen : ℕ} {memory : Range} {t : State} → IsWellFormed fllen sllen memory t → (v u : Used) (rest : List Used) → t.used ≡ v ∷ rest

@@ -1,4 +1,5 @@
 -- The range that an allocation takes.
+use Rattle.std.specs.Prelude.{nat_lt, nat_le, ◌||◌, ◌&&◌, ◌==◌}
 use Rattle.std.proofs.Common.{◌≡◌, ℕ, ◌*◌, true, cond, true≢false, List, [], ◌∷◌, Option, Some, None, find}
 use Rattle.std.proofs.Common.{arith, refl, sym, ◌∙◌, ap, subst, inl, inr}
 use Rattle.std.proofs.lemmas.Bool.{cases_lt, leb-true, le-leb, lt-ltb, le-ltb, eqb-true, eq-eqb, and_parts, and_from}
@@ -6,13 +7,14 @@ use Rattle.rlsf_base.specs.declared.memory.range.Range.{Range}
 use Rattle.rlsf_model_sizes.specs.SizeClass.{SizeClass, class_of, class_start, reaches, Reaches, IsAtMost}
 use Rattle.rlsf_base.proofs.SizeClasses.Order.{IsAtMost-refl, IsAtMost-trans, IsAtMost-total, IsAtMost-antisymm}
 use Rattle.rlsf_model.specs.Lists.{IsIn}
-use Rattle.rlsf_model.specs.Allocate.{is_at_most, has_class, earlier, least_reaching, choice}
+use Rattle.rlsf_model.specs.Allocate.{has_class, least_reaching, choice}
 use Rattle.rlsf_model.proofs.Coverage.{by_test, find-some, find-none}
+use Rattle.rlsf_model.proofs.Names.{earlier}
 
-pub is_at_most-true : (c d : SizeClass) → is_at_most c d ≡ true → IsAtMost c d
+pub is_at_most-true : (c d : SizeClass) → (nat_lt c.exponent d.exponent || (c.exponent == d.exponent && nat_le c.division d.division)) ≡ true → IsAtMost c d
 is_at_most-true c d h = grind (arith, cases_lt, and_parts, le-ltb, eqb-true, leb-true)
 
-pub is_at_most-from : (c d : SizeClass) → IsAtMost c d → is_at_most c d ≡ true
+pub is_at_most-from : (c d : SizeClass) → IsAtMost c d → (nat_lt c.exponent d.exponent || (c.exponent == d.exponent && nat_le c.division d.division)) ≡ true
 is_at_most-from c d h = grind (arith, lt-ltb, le-ltb, and_from, eq-eqb, le-leb)
 
 pub has_class-true : (sllen : ℕ) (c : SizeClass) (f : Range) → has_class sllen c f ≡ true → class_of sllen f.len ≡ c
@@ -51,7 +53,7 @@ module _ (sllen size : ℕ) where
           reached = reached;
           least = λ g h r. elim h [ inl same ↦ subst (λ x. IsAtMost c (class_of sllen x.len)) (sym same) (IsAtMost-refl c) | inr i ↦ absurd (none g i r) ];
         })
-        | one_reaches d e l ↦ by_test (is_at_most c d)
+        | one_reaches d e l ↦ by_test (nat_lt c.exponent d.exponent || (c.exponent == d.exponent && nat_le c.division d.division))
             (λ first. one_reaches c (is ∙ ap (λ o. Some (earlier c o)) e ∙ ap (λ b. Some (cond b c d)) first) (record {
               range = f;
               is_in = inl refl;

@@ -1,4 +1,5 @@
 -- Rows of chunks over the steps.
+use Rattle.std.specs.Option.{option_map_or}
 use Rattle.std.proofs.Common.{◌≡◌, ◌≢◌, ℕ, zero, suc, ◌+◌, ◌-◌, ◌*◌, ◌/◌, ◌<◌, ◌≤◌, List, [], ◌∷◌, ◌++◌, Option, Some, None, find}
 use Rattle.std.proofs.Common.{arith, refl, sym, ◌∙◌, ap, subst, inl, inr}
 use Rattle.std.proofs.lemmas.Bool.Decides.{nat_tests}
@@ -8,7 +9,7 @@ use Rattle.rlsf_base.specs.Range.{end_of, range_at}
 use Rattle.rlsf_model_sizes.specs.Rounding.{round32}
 use Rattle.rlsf_model_sizes.specs.Sizes.{max_pool_size}
 use Rattle.rlsf_model.specs.ChunkRows.{IsRow}
-use Rattle.rlsf_model.specs.Insert.{adjacent, remainder, cut, aligned_part, with_chunks, end_of_last, bytes_taken, grown_if, extended, appended, appended_bytes}
+use Rattle.rlsf_model.specs.Insert.{adjacent, remainder, cut, aligned_part, with_chunks, end_of_last, bytes_taken, extended, appended, appended_bytes, grown}
 use Rattle.rlsf_model.specs.Insert.{IsClear, Inserts, Appends}
 use Rattle.rlsf_model.specs.Join.{ends_at}
 use Rattle.rlsf_model.specs.Lists.{IsIn}
@@ -110,7 +111,7 @@ module _ (s : State) (r p : Range) (clear : IsClear r s.chunks) (apart : end_of 
       let (d, j, _, low, high, _) = row (end_of c) from behind in
       omega (arith, clear r.start (omega arith) (omega arith), coverage-IsIn itself d s.chunks r.start j, covers-inside d r.start (omega arith) (omega arith))
 
-  grown_if-row : (n : ℕ) → 0 < r.len → (o : Option Range) → find (ends_at r.start) s.chunks ≡ o → IsRow (grown_if o n s) p
+  grown_if-row : (n : ℕ) → 0 < r.len → (o : Option Range) → find (ends_at r.start) s.chunks ≡ o → IsRow (option_map_or (λ c. grown c n s) o s) p
   grown_if-row n some None found a low high = row a low high
   grown_if-row n some (Some d) found a low high =
       let is = find-some (ends_at r.start) d s.chunks found in
@@ -141,7 +142,7 @@ module _ {fllen sllen : ℕ} {memory : Range} {s : State} (w : IsWellFormed flle
   last_chunk : (c : Range) × IsIn c s.chunks × (p.start ≤ c.start) × (end_of c ≡ r.start)
   last_chunk = let (c, i, from, low, high, to) = row (end_of p - 1) (omega arith) (omega arith) in (c, i, from, omega arith)
 
-  grown_if-longer : (n : ℕ) → 0 < n → (o : Option Range) → find (ends_at r.start) s.chunks ≡ o → IsRow (grown_if o n s) (range_at p.start (p.len + n))
+  grown_if-longer : (n : ℕ) → 0 < n → (o : Option Range) → find (ends_at r.start) s.chunks ≡ o → IsRow (option_map_or (λ c. grown c n s) o s) (range_at p.start (p.len + n))
   grown_if-longer n more None found a low high = grind (arith, nat_tests, last_chunk, find-none)
   grown_if-longer n more (Some d) found a low high =
       let is = find-some (ends_at r.start) d s.chunks found in

@@ -1,4 +1,5 @@
 -- What a step leaves of the chunks.
+use Rattle.std.specs.Option.{option_map_or}
 use Rattle.std.proofs.Common.{◌≡◌, ℕ, zero, suc, ◌+◌, ◌*◌, ◌/◌, ◌%◌, ◌≤◌, ◌⊎◌, Bool, List, [], ◌∷◌, Option, Some, None, find, arith}
 use Rattle.std.proofs.Common.{refl, sym, ◌∙◌, ap, subst, inl, inr}
 use Rattle.std.proofs.lemmas.Bool.Decides.{nat_tests}
@@ -7,16 +8,17 @@ use Rattle.rlsf_base.specs.declared.memory.range.Range.{Range}
 use Rattle.rlsf_base.specs.Range.{end_of, range_at}
 use Rattle.rlsf_model_sizes.specs.Sizes.{max_pool_size}
 use Rattle.rlsf_model.specs.Allocate.{Allocates}
-use Rattle.rlsf_model.specs.Insert.{cut, aligned_part, with_chunk, with_chunks, grown_if, extended, appended, Inserts, Appends}
+use Rattle.rlsf_model.specs.Insert.{cut, aligned_part, with_chunks, extended, appended, Inserts, Appends, grown}
 use Rattle.rlsf_model.specs.Join.{ends_at}
 use Rattle.rlsf_model.specs.Laws.{IsChunkKept, ChunksStay, InsertedChunksLieInRange}
 use Rattle.rlsf_model.specs.Lists.{IsIn, without}
 use Rattle.rlsf_model.specs.Reallocate.{Plan, plan, ReallocatesBy, Reallocates}
 use Rattle.rlsf_model.specs.Release.{Deallocates}
-use Rattle.rlsf_model.specs.Run.{insert, append, allocate, deallocate, reallocate, fill, remove, trim, Fills}
+use Rattle.rlsf_model.specs.Run.{insert, append, allocate, reallocate, remove, trim, Fills}
 use Rattle.rlsf_model.specs.State.{State, Used}
 use Rattle.rlsf_model.proofs.Coverage.{find-some}
 use Rattle.rlsf_model.proofs.Cuts.{IsIn-cut_within}
+use Rattle.rlsf_model.proofs.Names.{with_chunk}
 
 -- without the element that was found, each other one is left
 pub IsIn-without_found : {A : Type 0} (p : A → Bool) (x y : A) (xs : List A) → find p xs ≡ Some x → IsIn y xs → (y ≡ x) ⊎ IsIn y (without p xs)
@@ -32,7 +34,7 @@ module _ (c : Range) (s t : State) (i : IsIn c s.chunks) where
   stays : (r : State) → IsIn c r.chunks → t ≡ r → IsChunkKept c t
   stays r j after = (c, subst (λ x. IsIn c x.chunks) (sym after) j, refl, inl refl)
 
-  grown_kept : (at n : ℕ) → 32 ≤ n → (o : Option Range) → find (ends_at at) s.chunks ≡ o → IsChunkKept c (grown_if o n s)
+  grown_kept : (at n : ℕ) → 32 ≤ n → (o : Option Range) → find (ends_at at) s.chunks ≡ o → IsChunkKept c (option_map_or (λ c. grown c n s) o s)
   grown_kept at n long None found = (c, i, refl, inl refl)
   grown_kept at n long (Some d) found =
       let ends : end_of d ≡ at = eqb-true (end_of d) at (find-some (ends_at at) d s.chunks found).1 in
@@ -109,7 +111,7 @@ used-with_chunks : (cs : List Range) (s : State) → (with_chunks cs s).used ≡
 used-with_chunks [] s = refl
 used-with_chunks (c ∷ cs) s = used-with_chunks cs (with_chunk c s)
 
-used-grown_if : (o : Option Range) (n : ℕ) (s : State) → (grown_if o n s).used ≡ s.used
+used-grown_if : (o : Option Range) (n : ℕ) (s : State) → (option_map_or (λ c. grown c n s) o s).used ≡ s.used
 used-grown_if o n s = grind arith
 
 used-extended : (at n : ℕ) (s : State) → (extended at n s).used ≡ s.used

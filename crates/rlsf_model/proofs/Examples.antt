@@ -14,12 +14,13 @@ use Rattle.rlsf_model.specs.Insert.{cut, aligned_part, bytes_taken, with_chunks,
 use Rattle.rlsf_model.specs.Join.{ends_at}
 use Rattle.rlsf_model.specs.Lists.{IsIn}
 use Rattle.rlsf_model.specs.Payload.{payload_of, block_for}
-use Rattle.rlsf_model.specs.Reallocate.{Plan, plan, replanned, Keeps, Replans, ReallocatesBy, Reallocates}
+use Rattle.rlsf_model.specs.Reallocate.{Plan, plan, Keeps, Replans, ReallocatesBy, Reallocates}
 use Rattle.rlsf_model.specs.Release.{released, Deallocates}
 use Rattle.rlsf_model.specs.Run.{Event, insert, append, allocate, deallocate, reallocate, Leads, MayCall, Runs}
 use Rattle.rlsf_model.specs.State.{State, Used, Holds}
 use Rattle.rlsf_model.specs.WellFormed.{coverage, itself}
 use Rattle.rlsf_model.proofs.Coverage.{covers-before, covers-behind, find-some}
+use Rattle.rlsf_model.proofs.Names.{replanned}
 
 abbrev pub at : ℕ → Used → Bool
 at addr u = eqb u.payload addr

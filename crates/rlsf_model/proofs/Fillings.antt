@@ -3,10 +3,11 @@ use Rattle.std.proofs.Common.{◌≡◌, ◌≢◌, ◌⊎◌, ℕ, ◌+◌, con
 use Rattle.std.proofs.lemmas.Bool.{cases_eq, eq-eqb, ne_eqb}
 use Rattle.rlsf_model.specs.Lists.{IsIn}
 use Rattle.rlsf_model.specs.Run.{Fills}
-use Rattle.rlsf_model.specs.State.{State, Used, shape_of, AreAlike, Holds, used_with_bytes, filled_if, filled_at}
+use Rattle.rlsf_model.specs.State.{State, Used, shape_of, AreAlike, Holds}
 use Rattle.rlsf_model.specs.WellFormed.{covers, coverage}
 use Rattle.rlsf_model.proofs.Coverage.{by_test, IsIn-map, IsIn-map_from}
 use Rattle.rlsf_model.proofs.Tiling.{block_of}
+use Rattle.rlsf_model.proofs.Names.{used_with_bytes, filled_if, filled_at}
 
 module _ (addr : ℕ) (bytes : List ℕ) where
   pub filled_if-here : (u : Used) → u.payload ≡ addr → filled_if addr bytes u ≡ used_with_bytes u bytes

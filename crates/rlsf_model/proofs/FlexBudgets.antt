@@ -10,7 +10,7 @@ use Rattle.rlsf_model.specs.FlexRun.{FlexMayCall, AsksNothing, FlexEvent, FlexLe
 use Rattle.rlsf_model.specs.FlexState.{FlexState}
 use Rattle.rlsf_model.specs.Note.{Note}
 use Rattle.rlsf_model.specs.State.{State}
-use Rattle.rlsf_model.specs.Run.{Event, insert, append, allocate, deallocate, reallocate, fill, remove, trim, Leads, MayCall, Runs}
+use Rattle.rlsf_model.specs.Run.{Event, allocate, deallocate, reallocate, fill, trim, Leads, MayCall, Runs}
 use Rattle.rlsf_model.specs.Sizing.{FlexNeverAsked}
 use Rattle.rlsf_model.specs.Terms.{Terms}
 use Rattle.rlsf_model.specs.WellFormed.{IsWellFormed}
@@ -33,9 +33,9 @@ module _ (live most : ℕ) {fllen sllen : ℕ} {memory : Range} (t : Terms) (s :
 
   reallocates_in_room : (addr size : ℕ) (reply : Option ℕ) (notes : List Note) (u : FlexState) → IsModest live most s.machine (reallocate addr size reply)
       → FlexReallocates fllen sllen t s addr size reply notes u → AsksNothing fllen sllen s (reallocate addr size reply) notes u
-  reallocates_in_room addr size None notes u modest refuses = absurd (never_full modest.0 size refuses.block.align (modest.1 refuses.block refuses.stuck.holds) refuses.asks.full)
+  reallocates_in_room addr size None notes u modest refuses = absurd (never_full modest.0 size refuses.block.align (modest.1 refuses.block refuses.holds) refuses.asks.full)
   reallocates_in_room addr size (Some to) notes u modest (inl room) = record { machine = room.machine; leads = room.reallocates; none = room.none; after = room.after }
-  reallocates_in_room addr size (Some to) notes u modest (inr more) = absurd (never_full modest.0 size more.block.align (modest.1 more.block more.stuck.holds) more.asks.full)
+  reallocates_in_room addr size (Some to) notes u modest (inr more) = absurd (never_full modest.0 size more.block.align (modest.1 more.block more.holds) more.asks.full)
 
   asks_nothing : (e : Event) (notes : List Note) (u : FlexState) → IsModest live most s.machine e → FlexLeads fllen sllen t s e notes u → AsksNothing fllen sllen s e notes u
   asks_nothing (allocate size align reply) notes u modest step = allocates_in_room size align reply notes u modest.0 modest.1 step

@@ -4,7 +4,7 @@ use Rattle.std.proofs.Common.{subst, inl, inr}
 use Rattle.std.proofs.lemmas.Bool.{ne_eqb}
 use Rattle.rlsf_base.specs.declared.memory.range.Range.{Range}
 use Rattle.rlsf_model.specs.Allocate.{Places, placed}
-use Rattle.rlsf_model.specs.Callers.{payload_at, payload_in, IsResizedInMap}
+use Rattle.rlsf_model.specs.Callers.{payload_at, IsResizedInMap}
 use Rattle.rlsf_model.specs.FlexRun.{FlexLeads}
 use Rattle.rlsf_model.specs.FlexState.{FlexState, with_machine}
 use Rattle.rlsf_model.specs.Laws.{FlexCallersSeeMap}
@@ -23,6 +23,7 @@ use Rattle.rlsf_model.proofs.Growths.{Holds-same, used-taken}
 use Rattle.rlsf_model.proofs.UsedBlocks.{Goes, as_before, reallocate_goes, step_goes}
 use Rattle.rlsf_model.proofs.Payloads.{payload_of-after, block_length-le, block_length-lt}
 use Rattle.rlsf_model.proofs.Trims.{used-trimmed}
+use Rattle.rlsf_model.proofs.Names.{payload_in}
 
 -- a step over a source makes such changes of the used blocks, too
 module _ (fllen sllen : ℕ) (t : Terms) (s u : FlexState) where
@@ -50,7 +51,7 @@ module _ (fllen sllen : ℕ) (t : Terms) (s u : FlexState) where
       let m = more.meanwhile in
       let is = used-taken fllen t s m more.outcome more.asks.extends.after in
       goes_at (reallocate addr size (Some to)) m more.machine is more.after
-      (reallocate_goes sllen m.machine more.machine addr size more.block (Holds-same s.machine m.machine addr more.block is more.stuck.holds) None (Some to) more.moves)
+      (reallocate_goes sllen m.machine more.machine addr size more.block (Holds-same s.machine m.machine addr more.block is more.holds) None (Some to) more.moves)
   flex_step_goes (fill addr bytes) notes step =
       goes_at (fill addr bytes) s step.machine refl step.after (step_goes fllen sllen s.machine step.machine (fill addr bytes) step.leads)
   flex_step_goes (trim count) notes step = as_before (used-trimmed t s u count notes step)
@@ -138,8 +139,8 @@ flex_callers_see_map fllen sllen terms before after s u (reallocate addr size (S
     (subst (λ (x : FlexState). Reallocates sllen s.machine addr size (Some to) x.machine) (sym room.after) room.reallocates)
 flex_callers_see_map fllen sllen terms before after s u (reallocate addr size (Some to)) notes w w' may (inr more) =
     let m = more.meanwhile in
-    let (is_used, at) = more.stuck.holds in
-    moved_changes w w' m.machine more.block addr size to is_used at (payload_at-held w addr more.block more.stuck.holds)
+    let (is_used, at) = more.holds in
+    moved_changes w w' m.machine more.block addr size to is_used at (payload_at-held w addr more.block more.holds)
     (used-taken fllen terms s m more.outcome more.asks.extends.after) more.elsewhere
     (subst (λ (x : FlexState). MovesAway sllen m.machine more.block size to x.machine) (sym more.after) more.moves)
 flex_callers_see_map fllen sllen terms before after s u (fill addr bytes) notes w w' may step =

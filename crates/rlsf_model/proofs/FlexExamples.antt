@@ -1,5 +1,5 @@
 -- The reference model that asks a source for memory and is given the answers: its replies to allocations, computed, and that they are a run.
-use Rattle.std.proofs.Common.{◌≡◌, ℕ, ◌%◌, ◌^◌, ◌+◌, Bool, true, ◌&&◌, leb, eqb, List, [], ◌∷◌, Option, Some, None, drop, true≢false, refl, sym, ap}
+use Rattle.std.proofs.Common.{◌≡◌, ℕ, ◌%◌, ◌^◌, ◌+◌, Bool, true, ◌&&◌, leb, eqb, List, [], ◌∷◌, Option, Some, None, drop, true≢false, refl, sym, ap, ◌||◌}
 use Rattle.std.proofs.Common.{◌∙◌, inl, inr}
 use Rattle.std.specs.Bool.{then_some}
 use Rattle.std.specs.Option.{is_some, IfSome}
@@ -11,12 +11,13 @@ use Rattle.rlsf_model.specs.Allocate.{choice}
 use Rattle.rlsf_model.specs.FlexAllocate.{Asks, FlexAllocates}
 use Rattle.rlsf_model.specs.FlexRun.{FlexEvent}
 use Rattle.rlsf_model.specs.FlexState.{FlexState, KeptPool, with_machine}
-use Rattle.rlsf_model.specs.Growth.{Outcome, Questions, IsPossible, TakesIn, refused, growth_came, range_came, behind, is_more, keeps, longer, notes_of, questions}
+use Rattle.rlsf_model.specs.Growth.{Outcome, Questions, IsPossible, TakesIn, refused, growth_came, range_came, is_more, longer, notes_of, questions}
 use Rattle.rlsf_model.specs.Insert.{aligned_part, appended, appended_bytes, bytes_taken, cut, with_chunks}
 use Rattle.rlsf_model.specs.Note.{Note, alloc, grow, dealloc}
 use Rattle.rlsf_model.specs.Run.{allocate}
 use Rattle.rlsf_model.specs.Terms.{IsGiven, IsGrown, Terms, with_len}
 use Rattle.rlsf_model.proofs.Examples.{address, allocate_after, allocate_step, is_vacant, IsVacant-from}
+use Rattle.rlsf_model.proofs.Names.{behind}
 
 -- an allocation without its reply, and what comes of the questions if there is no room
 pub record Attempt : Type 0 where
@@ -55,7 +56,7 @@ with_range fllen t s r None = s
 with_range fllen t s r (Some len) = record {
   machine = with_chunks (cut (max_pool_size fllen) (aligned_part r)) s.machine;
   pools = r ∷ s.pools;
-  kept = then_some (keeps t) (record { range = r; len = len });
+  kept = then_some (t.dealloc || t.grow) (record { range = r; len = len });
 }
 
 -- the range of the kept pool, if there is one, became so long

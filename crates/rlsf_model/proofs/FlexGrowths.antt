@@ -1,5 +1,5 @@
 -- Memory that comes from a source leaves a state well-formed.
-use Rattle.std.proofs.Common.{◌≡◌, ℕ, ◌+◌, ◌-◌, ◌≤◌, Bool, true, false, List, [], ◌∷◌, Option, Some, arith, refl, sym, ◌∙◌, ap, subst, inl, inr}
+use Rattle.std.proofs.Common.{◌≡◌, ℕ, ◌+◌, ◌-◌, ◌≤◌, Bool, true, false, List, [], ◌∷◌, Option, Some, arith, refl, sym, ◌∙◌, ap, subst, inl, inr, ◌||◌}
 use Rattle.std.specs.Bool.{then_some}
 use Rattle.std.proofs.lemmas.Bool.{false≢true}
 use Rattle.std.proofs.lemmas.Option.{same_Some}
@@ -15,7 +15,7 @@ use Rattle.rlsf_model.specs.ChunkRows.{IsRow}
 use Rattle.rlsf_model.specs.FlexRun.{HandsIn}
 use Rattle.rlsf_model.specs.FlexState.{FlexState, KeptPool}
 use Rattle.rlsf_model.specs.FlexWellFormed.{AreHoused, AreOutstanding, ArePools, IsFlexWellFormed, IsKeptPool, IsNewest, IsPool}
-use Rattle.rlsf_model.specs.Growth.{IsPossible, Outcome, behind, range_came, growth_came, is_more, keeps, longer, notes_of, questions, questions_for, refused, TakesIn}
+use Rattle.rlsf_model.specs.Growth.{IsPossible, Outcome, range_came, growth_came, is_more, longer, notes_of, questions, refused, TakesIn}
 use Rattle.rlsf_model.specs.Insert.{Appends, Inserts, IsClear, IsFresh, IsNext}
 use Rattle.rlsf_model.specs.Laws.{GrowthHasRoom, GrowthKeepsWellFormed}
 use Rattle.rlsf_model.specs.Lists.{IsIn}
@@ -33,6 +33,7 @@ use Rattle.rlsf_model.proofs.Insertions.{Inserts-keeps}
 use Rattle.rlsf_model.proofs.RangePools.{IsPool-inserted, IsPool-inserted_other, IsPool-kept}
 use Rattle.rlsf_model.proofs.RangeLengths.{HasAlignedPart-given, range_asked}
 use Rattle.rlsf_model.proofs.TakenPools.{IsTaken, appended_pool, appended_taken, inserted_pool, inserted_taken, longer as wider, new, old, pool_has_a_choice, pool_size_is}
+use Rattle.rlsf_model.proofs.Names.{behind}
 
 -- a state by its parts
 IsFlexWellFormed-at : {fllen sllen : ℕ} {memory : Range} {t : Terms} {s : FlexState} → IsFlexWellFormed fllen sllen memory t s
@@ -49,7 +50,7 @@ IsFlexWellFormed-at {t = t} w u pools kept is_pools is_kept machine outstanding 
 }
 
 -- a range whose last bytes r were taken, n of them, is kept up to there
-IsKeptPool-taken : (t : Terms) (range : Range) (len : ℕ) (rest : List Range) (s u : State) (r : Range) (n : ℕ) → keeps t ≡ true → range.start ≤ r.start
+IsKeptPool-taken : (t : Terms) (range : Range) (len : ℕ) (rest : List Range) (s u : State) (r : Range) (n : ℕ) → (t.dealloc || t.grow) ≡ true → range.start ≤ r.start
     → end_of r ≡ end_of range
     → range.start + len ≡ r.start + n → IsClear r s.chunks → IsTaken s r n u → IsKeptPool t (record { range = range; len = len }) (range ∷ rest) u.chunks
 IsKeptPool-taken t range len rest s u r n keep from ends at clear taken =
@@ -80,23 +81,23 @@ module _ {fllen sllen : ℕ} {memory : Range} {t : Terms} {s : FlexState} (w : I
 
   -- a range that came and was inserted leaves a well-formed state
   pub given_keeps : (n len : ℕ) (r : Range) (u : FlexState) → IsGiven t s.pools n r → Inserts fllen s.machine r (Some len) u.machine → u.pools ≡ r ∷ s.pools
-      → u.kept ≡ then_some (keeps t) (record { range = r; len = len })
+      → u.kept ≡ then_some (t.dealloc || t.grow) (record { range = r; len = len })
       → IsFlexWellFormed fllen sllen memory t u
   given_keeps n len r u g step is_pools is_kept =
       let (long, taken) = inserted_taken fllen s.machine u.machine r len w.machine.rows step in
       let fresh = given_fresh n r g in
-      IsFlexWellFormed-at w u (r ∷ s.pools) (then_some (keeps t) (record { range = r; len = len })) is_pools is_kept
+      IsFlexWellFormed-at w u (r ∷ s.pools) (then_some (t.dealloc || t.grow) (record { range = r; len = len })) is_pools is_kept
       (Inserts-keeps w.machine r fresh (Some len) u.machine step)
       (AreOutstanding-more t.space r s.pools w.pools g.lies_in g.apart long)
       (AreHoused-inserted fllen s.machine u.machine r (Some len) s.pools w.housed step)
-      (newest_by fresh taken (keeps t) refl)
+      (newest_by fresh taken (t.dealloc || t.grow) refl)
       (λ p. elim [
         | inl same ↦ subst (λ (q : Range). (m : ℕ) × IsPool u.machine q m) (sym same)
             (len, IsPool-inserted fllen s.machine u.machine r len long fresh.apart (Inserts-keeps w.machine r fresh (Some len) u.machine step) taken step)
         | inr i ↦ let (m, is) = w.pooled p i in (m, IsPool-inserted_other fllen s.machine u.machine r p m (Some len) s.pools i g.apart step is)
       ])
     where
-      newest_by : IsFresh memory s.machine r → IsTaken s.machine r len u.machine → (k : Bool) → keeps t ≡ k
+      newest_by : IsFresh memory s.machine r → IsTaken s.machine r len u.machine → (k : Bool) → (t.dealloc || t.grow) ≡ k
           → IsNewest t (then_some k (record { range = r; len = len })) (r ∷ s.pools) u.machine.chunks
       newest_by fresh taken true keep = IsKeptPool-taken t r len s.pools s.machine u.machine r len keep (omega arith) refl refl fresh.apart taken
       newest_by fresh taken false none = λ keep. absurd (false≢true (sym none ∙ keep))
@@ -256,8 +257,8 @@ module _ {fllen sllen : ℕ} {memory : Range} {t : Terms} {s : FlexState} (w : I
       → HasGrown (pool_size_to_contain_allocation fllen sllen size align) k len
   has_grown fl_bits sl_bits size align len k valid was possible answers =
       let (e, wanted) = more_wanted t s.kept (pool_size_to_contain_allocation fllen sllen size align) (growth_came len) refl possible in
-      let is_asked : questions t s.kept (pool_size_to_contain_allocation fllen sllen size align) ≡ questions_for t (Some k) e =
-      ap (λ o. questions t s.kept o) wanted ∙ ap (λ o. questions_for t o e) was in
+      let is_asked : questions t s.kept (pool_size_to_contain_allocation fllen sllen size align) ≡ questions t (Some k) (Some e) =
+      ap (λ o. questions t s.kept o) wanted ∙ ap (λ o. questions t o (Some e)) was in
       let kept = subst (λ o. IsNewest t o s.pools s.machine.chunks) was w.newest in
       let room = (pool_size_is fl_bits sl_bits fllen sllen e valid (record { size = size; align = align; is = wanted })).0 in
       let answer =

@@ -2,7 +2,7 @@
 use Rattle.std.proofs.Common.{◌≡◌, ℕ, [], ◌∷◌, Some, None, arith, refl, sym, ◌∙◌, ap, subst, inl, inr}
 use Rattle.std.proofs.lemmas.Option.{same_Some}
 use Rattle.rlsf_base.specs.declared.memory.range.Range.{Range}
-use Rattle.rlsf_model.specs.Callers.{Payload, ServesLayout, payload_at, payload_in}
+use Rattle.rlsf_model.specs.Callers.{Payload, ServesLayout, payload_at}
 use Rattle.rlsf_model.specs.FlexState.{FlexState}
 use Rattle.rlsf_model.specs.Laws.{FlexStepsChangeMap, FlexRunsChangeMap, FlexPayloadsAreApart, FlexAllocationHasSize, FlexReallocationHasSize, FlexReallocationKeepsBytes}
 use Rattle.rlsf_model.specs.Laws.{FlexOtherPayloadsStay, FlexOthersStayInRuns, FlexUsedWasUsed, FlexUsedWasUsedInRuns, HasSize}
@@ -16,6 +16,7 @@ use Rattle.rlsf_model.proofs.FlexCallers.{flex_callers_see_map, flex_step_goes}
 use Rattle.rlsf_model.proofs.FlexSteps.{flex_steps_keep_well_formed, flex_runs_keep_well_formed}
 use Rattle.rlsf_model.proofs.Live.{live_addresses_are_aligned, live_address_has_one_block, payloads_are_disjoint, payload_lies_in_one_chunk}
 use Rattle.rlsf_model.proofs.UsedBlocks.{stays, was}
+use Rattle.rlsf_model.proofs.Names.{payload_in}
 
 pub flex_steps_change_map : FlexStepsChangeMap
 flex_steps_change_map fl_bits sl_bits fllen sllen memory t s u e notes valid w step =

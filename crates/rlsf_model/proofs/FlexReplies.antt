@@ -1,5 +1,5 @@
 -- Each call over a source that its caller may make has a reply and a state after.
-use Rattle.std.proofs.Common.{◌≡◌, ◌≢◌, ℕ, ◌+◌, true, true≢false, map, List, [], ◌∷◌, Option, Some, None, refl, sym, ◌∙◌, ap, subst, inl, inr}
+use Rattle.std.proofs.Common.{◌≡◌, ◌≢◌, ℕ, ◌+◌, true, true≢false, map, List, [], ◌∷◌, Option, Some, None, refl, sym, ◌∙◌, ap, subst, inl, inr, ◌||◌}
 use Rattle.std.specs.Bool.{then_some}
 use Rattle.rlsf_base.specs.declared.memory.range.Range.{Range}
 use Rattle.rlsf_model_sizes.specs.PowerOfTwo.{IsPowerOfTwo}
@@ -11,7 +11,7 @@ use Rattle.rlsf_model.specs.FlexAllocate.{Asks}
 use Rattle.rlsf_model.specs.FlexRun.{IsFlexStep}
 use Rattle.rlsf_model.specs.FlexState.{FlexState, KeptPool, with_machine}
 use Rattle.rlsf_model.specs.FlexWellFormed.{IsFlexWellFormed}
-use Rattle.rlsf_model.specs.Growth.{IsPossible, Outcome, Questions, TakesIn, behind, range_came, growth_came, is_more, keeps, longer, notes_of, questions, refused}
+use Rattle.rlsf_model.specs.Growth.{IsPossible, Outcome, Questions, TakesIn, range_came, growth_came, is_more, longer, notes_of, questions, refused}
 use Rattle.rlsf_model.specs.Insert.{Inserts, aligned_part, appended, appended_bytes, bytes_taken, cut, with_chunks}
 use Rattle.rlsf_model.specs.Lists.{IsIn}
 use Rattle.rlsf_model.specs.Laws.{FlexEachCallAnswers, IsAnswered, MayRespond}
@@ -32,6 +32,7 @@ use Rattle.rlsf_model.proofs.RangeLengths.{HasAlignedPart-given, range_asked}
 use Rattle.rlsf_model.proofs.Room.{allocation_answers}
 use Rattle.rlsf_model.proofs.Trims.{trim_answers}
 use Rattle.rlsf_model.proofs.TakenPools.{inserted_pool, pool_size_is}
+use Rattle.rlsf_model.proofs.Names.{behind}
 
 module _ {fl_bits sl_bits fllen sllen : ℕ} {memory : Range} {t : Terms} {s : FlexState} (valid : IsValid fl_bits sl_bits fllen sllen)
     (w : IsFlexWellFormed fllen sllen memory t s) where
@@ -50,7 +51,7 @@ module _ {fl_bits sl_bits fllen sllen : ℕ} {memory : Range} {t : Terms} {s : F
       let step : Inserts fllen s.machine r (bytes_taken r.start cs) m = record { answer = refl; after = refl } in
       let (len, is, taken, pool) =
       inserted_pool fllen sllen e s.machine m r (bytes_taken r.start cs) w.machine.rows room whole short (HasAlignedPart-given t s.pools e n r told g) step in (
-        record { machine = m; pools = r ∷ s.pools; kept = then_some (keeps t) (record { range = r; len = len }) },
+        record { machine = m; pools = r ∷ s.pools; kept = then_some (t.dealloc || t.grow) (record { range = r; len = len }) },
         (len, subst (λ o. Inserts fllen s.machine r o m) is step, refl, refl),
       )
 
@@ -135,7 +136,8 @@ module _ {fl_bits sl_bits fllen sllen : ℕ} {memory : Range} {t : Terms} {s : F
                   leads =
                       inr (record {
                         block = v;
-                        stuck = record { holds = holds; no_plan = none };
+                        holds = holds;
+                        no_plan = none;
                         outcome = o;
                         meanwhile = m;
                         asks = asks;
@@ -153,7 +155,7 @@ module _ {fl_bits sl_bits fllen sllen : ℕ} {memory : Range} {t : Terms} {s : F
         reallocate addr size None,
         m,
         (refl, refl),
-        record { may = (v, holds); answers = answers; leads = record { block = v; stuck = record { holds = holds; no_plan = none }; asks = asks } },
+        record { may = (v, holds); answers = answers; leads = record { block = v; holds = holds; no_plan = none; asks = asks } },
       )
       moved_asked (range_came r) m asks = moved_more (range_came r) m refl asks
       moved_asked (growth_came len) m asks = moved_more (growth_came len) m refl asks

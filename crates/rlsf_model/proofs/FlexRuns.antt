@@ -74,11 +74,11 @@ module _ {fl_bits sl_bits fllen sllen : ℕ} {memory : Range} {t : Terms} {s : F
       let m = more.meanwhile in
       let v = more.block in
       let (h, hands, may, step) = asked_handed_in size v.align more.outcome m more.more more.asks in
-      let gone = subst (λ a. Deallocates more.moves.meanwhile a more.machine) more.stuck.holds.1 more.moves.released in
+      let gone = subst (λ a. Deallocates more.moves.meanwhile a more.machine) more.holds.1 more.moves.released in
       done_at s.machine (reallocate addr size (Some to)) (with_machine m more.machine) u more.after (
         h ∷ allocate size v.align (Some to) ∷ deallocate addr ∷ [],
         (hands, (v.align, refl), refl),
-        (m.machine, may, step, (more.moves.meanwhile, (w.machine.used v more.stuck.holds.0).power, more.moves.allocated, (more.machine, (gone.block, gone.holds), gone, refl))),
+        (m.machine, may, step, (more.moves.meanwhile, (w.machine.used v more.holds.0).power, more.moves.allocated, (more.machine, (gone.block, gone.holds), gone, refl))),
       )
 
 -- a trim is done by removals

@@ -1,31 +1,33 @@
 -- Steps over a source are determined: from similar states, with the same answers, the same call leads to similar states.
 use mathlib.Core.Path.{ap₂}
-use Rattle.std.proofs.Common.{◌≡◌, ℕ, ◌+◌, true≢false, List, [], ◌∷◌, ◌++◌, Option, Some, None, refl, sym, ◌∙◌, ap, subst, inl, inr}
+use Rattle.std.proofs.Common.{◌≡◌, ℕ, ◌+◌, true≢false, List, [], ◌∷◌, ◌++◌, Option, Some, None, refl, sym, ◌∙◌, ap, subst, inl, inr, ◌||◌}
 use Rattle.std.proofs.lemmas.Bool.{false≢true}
 use Rattle.std.proofs.lemmas.Option.{none-some, same_Some}
 use Rattle.std.specs.Bool.{then_some}
+use Rattle.std.specs.Prelude.{None}
 use Rattle.rlsf_base.specs.declared.memory.range.Range.{Range}
 use Rattle.rlsf_model_sizes.specs.SizeClass.{IsValid}
 use Rattle.rlsf_model_sizes.specs.Sizes.{pool_size_to_contain_allocation}
 use Rattle.rlsf_model.specs.Answers.{MayAnswerAll}
 use Rattle.rlsf_model.specs.FlexAllocate.{Asks, FlexAllocates}
-use Rattle.rlsf_model.specs.FlexReallocate.{FlexReallocates, IsStuck}
+use Rattle.rlsf_model.specs.FlexReallocate.{FlexReallocates}
 use Rattle.rlsf_model.specs.FlexRun.{FlexEvent, notes_in}
 use Rattle.rlsf_model.specs.FlexState.{AreFlexSimilar, FlexState, KeptPool, with_machine}
 use Rattle.rlsf_model.specs.FlexWellFormed.{IsFlexWellFormed}
-use Rattle.rlsf_model.specs.Growth.{Extends, IsPossible, Outcome, Questions, behind, range_came, growth_came, is_more, keeps, longer, notes_of, questions, refused, TakesIn}
+use Rattle.rlsf_model.specs.Growth.{Extends, IsPossible, Outcome, Questions, range_came, growth_came, is_more, longer, notes_of, questions, refused, TakesIn}
 use Rattle.rlsf_model.specs.Laws.{FlexSimilarRunsAgree, FlexSimilarStatesAgree}
 use Rattle.rlsf_model.specs.Lists.{IsIn}
 use Rattle.rlsf_model.specs.Note.{AnswersAgree, Note}
-use Rattle.rlsf_model.specs.Reallocate.{Reallocates, ReallocatesBy}
+use Rattle.rlsf_model.specs.Reallocate.{Reallocates, ReallocatesBy, plan}
 use Rattle.rlsf_model.specs.Run.{insert, append, allocate, deallocate, reallocate, fill, remove, trim}
-use Rattle.rlsf_model.specs.State.{AreSimilar, State, Used, shape_of}
+use Rattle.rlsf_model.specs.State.{AreSimilar, State, Used, shape_of, Holds}
 use Rattle.rlsf_model.specs.Terms.{Terms, with_len}
 use Rattle.rlsf_model.proofs.FlexSteps.{asked_keeps, flex_steps_keep_well_formed}
 use Rattle.rlsf_model.proofs.Notes.{AnswersAgree-behind, AnswersAgree-front}
 use Rattle.rlsf_model.proofs.Growths.{used-taken}
 use Rattle.rlsf_model.proofs.TrimmedSimilar.{trims-similar}
 use Rattle.rlsf_model.proofs.Similar.{allocate-similar, reallocate-similar, shape-held, similar_states_agree}
+use Rattle.rlsf_model.proofs.Names.{behind}
 
 -- the same questions lead to the same ranges if the answers are the same
 outcome-agrees : (q : Questions) (o o' : Outcome) → IsPossible q o → IsPossible q o' → AnswersAgree (notes_of q o) (notes_of q o') → o ≡ o'
@@ -49,10 +51,11 @@ outcome-agrees q o o' p p' a = go q.growth q.range o o' p p' a
     go (Some (k, m)) r o o' p p' a = let bad = a.0 (refl, refl) in absurd (cc)
 
 -- a reallocation is refused by the reference model, where the block is stuck and there is no room
-refuses_stuck : {fllen sllen : ℕ} {t : Terms} {x : FlexState} (addr size : ℕ) (v : Used) (outcome : Outcome) (ns : List Note) (m : FlexState) → IsStuck x.machine addr size v
+refuses_stuck : {fllen sllen : ℕ} {t : Terms} {x : FlexState} (addr size : ℕ) (v : Used) (outcome : Outcome) (ns : List Note) (m : FlexState)
+    → (Holds x.machine addr v × (plan x.machine v size ≡ None))
     → Asks fllen sllen t x size v.align outcome ns m → Reallocates sllen x.machine addr size None x.machine
 refuses_stuck {sllen = sllen} {x = x} addr size v outcome ns m stuck asks =
-    record { block = v; holds = stuck.holds; step = subst (λ p. ReallocatesBy sllen x.machine v size p None x.machine) (sym stuck.no_plan) asks.full }
+    record { block = v; holds = stuck.0; step = subst (λ p. ReallocatesBy sllen x.machine v size p None x.machine) (sym stuck.1) asks.full }
 
 -- similar states, with similar states of the reference model in them
 with_machine-similar : {s s' : FlexState} → AreFlexSimilar s s' → (m m' : State) (u u' : FlexState) → AreSimilar m m' → u ≡ with_machine s m → u' ≡ with_machine s' m'
@@ -74,7 +77,7 @@ module _ {fllen sllen : ℕ} {memory : Range} {t : Terms} {s s' : FlexState} (w 
       record {
         machine = d.1;
         pools = pools ∙ ap (λ ps. q ∷ ps) r.pools ∙ sym pools';
-        kept = kept ∙ ap (λ len. then_some (keeps t) (let k : KeptPool = record { range = q; len = len } in k)) same ∙ sym kept';
+        kept = kept ∙ ap (λ len. then_some (t.dealloc || t.grow) (let k : KeptPool = record { range = q; len = len } in k)) same ∙ sym kept';
       }
   taken-similar (growth_came len) u u' (k, n, was, step, pools, kept) (k', n', was', step', pools', kept') =
       let is : k ≡ k' = same_Some k k' (sym was ∙ r.kept ∙ was') in
@@ -152,11 +155,12 @@ module _ {fl_bits sl_bits fllen sllen : ℕ} {memory : Range} {t : Terms} {s s' 
   -- ---- a reallocation
 
   -- what is asked for stuck blocks
-  stuck-similar : (addr size : ℕ) (v v' : Used) (o o' : Outcome) (m m' : FlexState) → IsStuck s.machine addr size v → IsStuck s'.machine addr size v'
+  stuck-similar : (addr size : ℕ) (v v' : Used) (o o' : Outcome) (m m' : FlexState)
+      → (Holds s.machine addr v × (plan s.machine v size ≡ None)) → (Holds s'.machine addr v' × (plan s'.machine v' size ≡ None))
       → Asks fllen sllen t s size v.align o notes m → Asks fllen sllen t s' size v'.align o' notes' m'
       → (shape_of v ≡ shape_of v') × (o ≡ o') × (notes ≡ notes') × AreFlexSimilar m m'
   stuck-similar addr size v v' o o' m m' stuck stuck' a b =
-      let shape = shape-held w'.machine r.machine addr v v' stuck.holds stuck'.holds in
+      let shape = shape-held w'.machine r.machine addr v v' stuck.0 stuck'.0 in
       let align : v.align ≡ v'.align = ap (λ h. h.align) shape in
       let d = extended-similar w w' r (pool_size_to_contain_allocation fllen sllen size v.align) o o' notes notes' m m' a.extends
       (subst (λ x. Extends fllen t s' (pool_size_to_contain_allocation fllen sllen size x) o' notes' m') (sym align) b.extends) agree in
@@ -165,33 +169,37 @@ module _ {fl_bits sl_bits fllen sllen : ℕ} {memory : Range} {t : Terms} {s s' 
   reallocate-agrees : (addr size : ℕ) (m n : Option ℕ) → FlexReallocates fllen sllen t s addr size m notes u → FlexReallocates fllen sllen t s' addr size n notes' u'
       → Agree m n
   reallocate-agrees addr size None None a b =
-      let d = stuck-similar addr size a.block b.block refused refused u u' a.stuck b.stuck a.asks b.asks in
+      let d = stuck-similar addr size a.block b.block refused refused u u' (a.holds, a.no_plan) (b.holds, b.no_plan) a.asks b.asks in
       (refl, d.2, d.3)
   reallocate-agrees addr size None (Some y) a (inl b) =
-      absurd (none-some y (replies-agree w w' r addr size None (Some y) s.machine b.machine (refuses_stuck addr size a.block refused notes u a.stuck a.asks) b.reallocates).0)
+      absurd (none-some y (replies-agree w w' r addr size None (Some y) s.machine b.machine
+      (refuses_stuck addr size a.block refused notes u (a.holds, a.no_plan) a.asks) b.reallocates).0)
   reallocate-agrees addr size None (Some y) a (inr b) =
-      let d = stuck-similar addr size a.block b.block refused b.outcome u b.meanwhile a.stuck b.stuck a.asks b.asks in
+      let d = stuck-similar addr size a.block b.block refused b.outcome u b.meanwhile (a.holds, a.no_plan) (b.holds, b.no_plan) a.asks b.asks in
       absurd (false≢true (ap is_more d.1 ∙ b.more))
   reallocate-agrees addr size (Some x) None (inl a) b =
       absurd (none-some x (sym
-      (replies-agree w w' r addr size (Some x) None a.machine s'.machine a.reallocates (refuses_stuck addr size b.block refused notes' u' b.stuck b.asks)).0))
+      (replies-agree w w' r addr size (Some x) None a.machine s'.machine a.reallocates (refuses_stuck addr size b.block refused notes' u' (b.holds, b.no_plan) b.asks)).0))
   reallocate-agrees addr size (Some x) None (inr a) b =
-      let d = stuck-similar addr size a.block b.block a.outcome refused a.meanwhile u' a.stuck b.stuck a.asks b.asks in
+      let d = stuck-similar addr size a.block b.block a.outcome refused a.meanwhile u' (a.holds, a.no_plan) (b.holds, b.no_plan) a.asks b.asks in
       absurd (true≢false (sym a.more ∙ ap is_more d.1))
   reallocate-agrees addr size (Some x) (Some y) (inl a) (inl b) =
       let d = replies-agree w w' r addr size (Some x) (Some y) a.machine b.machine a.reallocates b.reallocates in
       (d.0, a.none ∙ sym b.none, with_machine-similar r a.machine b.machine u u' d.1 a.after b.after)
   reallocate-agrees addr size (Some x) (Some y) (inl a) (inr b) =
       absurd (none-some x (sym
-      (replies-agree w w' r addr size (Some x) None a.machine s'.machine a.reallocates (refuses_stuck addr size b.block b.outcome notes' b.meanwhile b.stuck b.asks)).0))
+      (replies-agree w w' r addr size (Some x) None a.machine s'.machine a.reallocates
+      (refuses_stuck addr size b.block b.outcome notes' b.meanwhile (b.holds, b.no_plan) b.asks)).0))
   reallocate-agrees addr size (Some x) (Some y) (inr a) (inl b) =
-      absurd (none-some y (replies-agree w w' r addr size None (Some y) s.machine b.machine (refuses_stuck addr size a.block a.outcome notes a.meanwhile a.stuck a.asks)
+      absurd (none-some y (replies-agree w w' r addr size None (Some y) s.machine b.machine
+      (refuses_stuck addr size a.block a.outcome notes a.meanwhile (a.holds, a.no_plan) a.asks)
       b.reallocates).0)
   reallocate-agrees addr size (Some x) (Some y) (inr a) (inr b) =
-      let (shape, came, asked, near) = stuck-similar addr size a.block b.block a.outcome b.outcome a.meanwhile b.meanwhile a.stuck b.stuck a.asks b.asks in
+      let (shape, came, asked, near) = stuck-similar addr size a.block b.block a.outcome b.outcome a.meanwhile b.meanwhile
+      (a.holds, a.no_plan) (b.holds, b.no_plan) a.asks b.asks in
       let answers' = subst (MayAnswerAll t s'.pools) asked (subst (λ ps. MayAnswerAll t ps notes) r.pools answers) in
       let whole = asked_keeps valid w' u' notes' answers' size b.block.align b.outcome b.meanwhile b.asks in
-      let used = subst (IsIn b.block) (sym (used-taken fllen t s' b.meanwhile b.outcome b.asks.extends.after)) b.stuck.holds.0 in
+      let used = subst (IsIn b.block) (sym (used-taken fllen t s' b.meanwhile b.outcome b.asks.extends.after)) b.holds.0 in
       let d = reallocate-similar whole.machine near.machine a.block b.block used shape size None (Some x) (Some y) a.machine b.machine a.moves b.moves in
       (d.0, asked, with_machine-similar near a.machine b.machine u u' d.1 a.after b.after)
 

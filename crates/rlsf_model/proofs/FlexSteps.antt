@@ -13,7 +13,7 @@ use Rattle.rlsf_model.specs.Growth.{Outcome, refused}
 use Rattle.rlsf_model.specs.Laws.{FlexEmptyIsWellFormed, FlexStepsKeepWellFormed, FlexRunsAreSteps, FlexRunsKeepWellFormed}
 use Rattle.rlsf_model.specs.Note.{Note}
 use Rattle.rlsf_model.specs.Reallocate.{MovesAway}
-use Rattle.rlsf_model.specs.Run.{insert, append, allocate, deallocate, reallocate, fill, remove, trim}
+use Rattle.rlsf_model.specs.Run.{allocate, deallocate, reallocate, fill, trim}
 use Rattle.rlsf_model.specs.State.{State, Used}
 use Rattle.rlsf_model.specs.Terms.{Terms}
 use Rattle.rlsf_model.specs.WellFormed.{IsWellFormed}
@@ -73,7 +73,7 @@ module _ {fl_bits sl_bits fllen sllen : ℕ} {memory : Range} {t : Terms} {s : F
       with_machine_keeps w room.machine u (Reallocates-keeps w.machine addr size (Some to) room.machine room.reallocates)
       (chunks-reallocated sllen s.machine room.machine addr size (Some to) room.reallocates) room.after
   flex_reallocated_keeps addr size (Some to) (inr more) =
-      moved_keeps (asked_keeps size more.block.align more.outcome more.meanwhile more.asks) more.block size to more.machine u (w.machine.used more.block more.stuck.holds.0).power
+      moved_keeps (asked_keeps size more.block.align more.outcome more.meanwhile more.asks) more.block size to more.machine u (w.machine.used more.block more.holds.0).power
       more.moves more.after
 
 pub flex_steps_keep_well_formed : FlexStepsKeepWellFormed

@@ -1,11 +1,12 @@
 -- Memory that comes leaves the used blocks.
 use Rattle.std.proofs.Common.{◌≡◌, ℕ, Some, ap, subst, sym}
 use Rattle.rlsf_model.specs.FlexState.{FlexState}
-use Rattle.rlsf_model.specs.Growth.{Outcome, refused, growth_came, range_came, TakesIn, behind}
+use Rattle.rlsf_model.specs.Growth.{Outcome, refused, growth_came, range_came, TakesIn}
 use Rattle.rlsf_model.specs.Lists.{IsIn}
 use Rattle.rlsf_model.specs.State.{State, Used, Holds}
 use Rattle.rlsf_model.specs.Terms.{Terms}
 use Rattle.rlsf_model.proofs.Chunks.{used-appended, used-inserted}
+use Rattle.rlsf_model.proofs.Names.{behind}
 
 -- with the same used blocks, an address has the same block
 pub Holds-same : (s t : State) (addr : ℕ) (u : Used) → t.used ≡ s.used → Holds s addr u → Holds t addr u

@@ -4,13 +4,14 @@ use Rattle.rlsf_base.specs.declared.memory.range.Range.{Range}
 use Rattle.rlsf_base.specs.Range.{end_of}
 use Rattle.rlsf_model_sizes.specs.Sizes.{max_pool_size}
 use Rattle.rlsf_base.proofs.SizeClasses.Reach.{IsValidClass-class_of}
-use Rattle.rlsf_model.specs.Insert.{cut, aligned_part, body, with_chunk, with_chunks, IsFresh, Inserts}
+use Rattle.rlsf_model.specs.Insert.{cut, aligned_part, body, with_chunks, IsFresh, Inserts}
 use Rattle.rlsf_model.specs.Lists.{IsIn}
 use Rattle.rlsf_model.specs.State.{State}
 use Rattle.rlsf_model.specs.WellFormed.{covers, coverage, itself, last_bytes, IsWhole, IsChunk, IsWellFormed}
 use Rattle.rlsf_model.proofs.Coverage.{inside, before, behind, where_is, covers-inside, coverage-unique}
 use Rattle.rlsf_model.proofs.Cuts.{IsIn-cut, coverage-cut, covers-body}
 use Rattle.rlsf_model.proofs.Tiling.{blocks, IsTiled, lies_in_chunk, apart_from_last, IsPart-free, IsWellFormed-from}
+use Rattle.rlsf_model.proofs.Names.{with_chunk}
 
 pub IsWhole-aligned_part : (r : Range) → IsWhole (aligned_part r)
 IsWhole-aligned_part r = record { start = omega arith; len = omega arith }

@@ -1,10 +1,11 @@
 -- The range that a join makes, side by side.
+use Rattle.std.specs.Option.{option_map_or}
 use Rattle.std.proofs.Common.{◌≡◌, ◌≢◌, ℕ, ◌+◌, ◌%◌, ◌<◌, ◌≤◌, Bool, List, Option, Some, None, find, true≢false, arith, refl, sym, ◌∙◌, ap}
 use Rattle.std.proofs.Common.{subst, inl, inr}
 use Rattle.std.proofs.lemmas.Bool.{eq-eqb, eqb-true}
 use Rattle.rlsf_base.specs.declared.memory.range.Range.{Range}
 use Rattle.rlsf_base.specs.Range.{end_of}
-use Rattle.rlsf_model.specs.Join.{ends_at, starts_at, start_or, end_or, join}
+use Rattle.rlsf_model.specs.Join.{ends_at, starts_at, join}
 use Rattle.rlsf_model.specs.Lists.{IsIn, without}
 use Rattle.rlsf_model.specs.State.{between}
 use Rattle.rlsf_model.specs.WellFormed.{covers, coverage, itself, IsWhole, IsApart}
@@ -24,10 +25,10 @@ covers-same r s a start end = grind (arith, covers-empty, covers-split)
 
 -- what the range before an address adds
 pub record IsLeft (at : ℕ) (free : List Range) (o : Option Range) : Type 0 where
-  pub order : start_or at o ≤ at
-  pub whole : start_or at o % 32 ≡ 0
-  pub cover : (a : ℕ) → coverage itself free a ≡ covers (between (start_or at o) at) a + coverage itself (without (ends_at at) free) a
-  pub ends : (g : Range) → IsIn g (without (ends_at at) free) → end_of g ≢ start_or at o
+  pub order : option_map_or (λ f. f.start) o at ≤ at
+  pub whole : option_map_or (λ f. f.start) o at % 32 ≡ 0
+  pub cover : (a : ℕ) → coverage itself free a ≡ covers (between (option_map_or (λ f. f.start) o at) at) a + coverage itself (without (ends_at at) free) a
+  pub ends : (g : Range) → IsIn g (without (ends_at at) free) → end_of g ≢ (option_map_or (λ f. f.start) o at)
 
 pub left_of : (at : ℕ) (free : List Range) → at % 32 ≡ 0 → IsSound free → IsLeft at free (find (ends_at at) free)
 left_of at free whole sound = go (find (ends_at at) free) refl
@@ -54,10 +55,10 @@ left_of at free whole sound = go (find (ends_at at) free) refl
 
 -- what the range behind an address adds
 pub record IsRight (at : ℕ) (free : List Range) (o : Option Range) : Type 0 where
-  pub order : at ≤ end_or at o
-  pub whole : end_or at o % 32 ≡ 0
-  pub cover : (a : ℕ) → coverage itself free a ≡ covers (between at (end_or at o)) a + coverage itself (without (starts_at at) free) a
-  pub starts : (g : Range) → IsIn g (without (starts_at at) free) → end_or at o ≢ g.start
+  pub order : at ≤ option_map_or end_of o at
+  pub whole : option_map_or end_of o at % 32 ≡ 0
+  pub cover : (a : ℕ) → coverage itself free a ≡ covers (between at (option_map_or end_of o at)) a + coverage itself (without (starts_at at) free) a
+  pub starts : (g : Range) → IsIn g (without (starts_at at) free) → option_map_or end_of o at ≢ g.start
 
 pub right_of : (at : ℕ) (free : List Range) → at % 32 ≡ 0 → IsSound free → IsRight at free (find (starts_at at) free)
 right_of at free whole sound = go (find (starts_at at) free) refl
@@ -94,8 +95,8 @@ module _ (r : Range) (free : List Range) (r_whole : IsWhole r) (some : 0 < r.len
   -- the union has the addresses of the range and of what was taken out
   pub coverage-join : (a : ℕ) → coverage itself (join r free) a ≡ covers r a + coverage itself free a
   coverage-join a =
-      let low = start_or r.start (find (ends_at r.start) free) in
-      let high = end_or (end_of r) (find (starts_at (end_of r)) (without (ends_at r.start) free)) in
+      let low = option_map_or (λ f. f.start) (find (ends_at r.start) free) r.start in
+      let high = option_map_or end_of (find (starts_at (end_of r)) (without (ends_at r.start) free)) (end_of r) in
       let l = left in
       let h = right in
       let first : covers (between low high) a ≡ covers (between low (end_of r)) a + covers (between (end_of r) high) a =
@@ -108,14 +109,14 @@ module _ (r : Range) (free : List Range) (r_whole : IsWhole r) (some : 0 < r.len
   -- and is no shorter than the range
   pub IsIn-join : (f : Range) × IsIn f (join r free) × (r.len ≤ f.len)
   IsIn-join =
-      let low = start_or r.start (find (ends_at r.start) free) in
-      let high = end_or (end_of r) (find (starts_at (end_of r)) (without (ends_at r.start) free)) in
+      let low = option_map_or (λ f. f.start) (find (ends_at r.start) free) r.start in
+      let high = option_map_or end_of (find (starts_at (end_of r)) (without (ends_at r.start) free)) (end_of r) in
       (between low high, inl refl, omega (arith, left.order, right.order))
 
   pub IsSound-join : IsSound (join r free)
   IsSound-join =
-      let low = start_or r.start (find (ends_at r.start) free) in
-      let high = end_or (end_of r) (find (starts_at (end_of r)) (without (ends_at r.start) free)) in
+      let low = option_map_or (λ f. f.start) (find (ends_at r.start) free) r.start in
+      let high = option_map_or end_of (find (starts_at (end_of r)) (without (ends_at r.start) free)) (end_of r) in
       let l = left in
       let h = right in
       let others = IsSound-without (starts_at (end_of r)) (without (ends_at r.start) free) (IsSound-without (ends_at r.start) free sound) in

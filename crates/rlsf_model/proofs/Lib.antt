@@ -32,6 +32,7 @@ pub mod Insertions
 pub mod Joins
 pub mod Live
 pub mod LiveAddresses
+pub mod Names
 pub mod NoMove
 pub mod Notes
 pub mod Orders

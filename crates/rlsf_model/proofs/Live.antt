@@ -11,9 +11,9 @@ use Rattle.rlsf_model.specs.Laws.{LiveAddressesAreAligned, LiveAddressHasOneBloc
 use Rattle.rlsf_model.specs.Laws.{ReallocationKeepsBytes, OtherPayloadsStay, UsedWasUsed, HandedOutIsNew, ReallocatedIsLive, LiveStays, ReleasedIsNotLive, FilledHasBytes}
 use Rattle.rlsf_model.specs.Laws.{FillLeavesOthers, DeallocationLeavesOthers}
 use Rattle.rlsf_model.specs.Lists.{IsIn}
-use Rattle.rlsf_model.specs.Reallocate.{Keeps, Plan, plan, moved, ReallocatesBy, Reallocates}
+use Rattle.rlsf_model.specs.Reallocate.{Keeps, Plan, plan, ReallocatesBy, Reallocates}
 use Rattle.rlsf_model.specs.Run.{Fills, CallNames}
-use Rattle.rlsf_model.specs.State.{State, Used, Holds, IsLive, usable, filled, used_with_bytes}
+use Rattle.rlsf_model.specs.State.{State, Used, Holds, IsLive, usable, filled}
 use Rattle.rlsf_model.specs.WellFormed.{covers, coverage, itself, IsUsed, IsWellFormed}
 use Rattle.rlsf_model.proofs.Allocations.{placed-fits, IsUsed-placed}
 use Rattle.rlsf_model.proofs.Changes.{Holds-unique, IsIn-others, IsIn-others_from}
@@ -24,6 +24,7 @@ use Rattle.rlsf_model.proofs.Plans.{IsSoundPlan, IsSound-plan}
 use Rattle.rlsf_model.proofs.Payloads.{payload_of-after, IsUsed-aligned, IsUsed-after_start, IsUsed-some}
 use Rattle.rlsf_model.proofs.Tiling.{block_of, tiling_of, used-le, blocks-le, lies_in_chunk, IsPart-used}
 use Rattle.rlsf_model.proofs.UsedBlocks.{stays, step_goes, was}
+use Rattle.rlsf_model.proofs.Names.{moved, used_with_bytes}
 
 pub live_addresses_are_aligned : LiveAddressesAreAligned
 live_addresses_are_aligned fllen sllen memory s addr align w (u, (i, at), is) = grind (arith, IsUsed-aligned)
@@ -278,7 +279,14 @@ filled_has_bytes fllen sllen memory s t addr align bytes w (u, held, is) step =
     ((v, filled_holds step, ap (λ x. x.align) same ∙ is), (v, filled_holds step, refl))
 
 pub fill_leaves_others : FillLeavesOthers
-fill_leaves_others s t addr bytes step = grind (arith, IsIn-filled_other, IsIn-filled_other_from)
+fill_leaves_others s t addr bytes step = (
+  ap (λ x. x.chunks) step.after,
+  ap (λ x. x.free) step.after,
+  λ u apart. (
+    (λ i. subst (λ x. IsIn u x.used) (sym step.after) (IsIn-filled_other addr bytes u s.used i apart)),
+    (λ i. IsIn-filled_other_from addr bytes u s.used (subst (λ x. IsIn u x.used) step.after i) apart),
+  ),
+)
 
 pub deallocation_leaves_others : DeallocationLeavesOthers
 deallocation_leaves_others s t addr step = grind (arith, IsIn-others, IsIn-others_from)

@@ -1,6 +1,6 @@
 -- Notes that lead from one value of a source to another.
 use Rattle.std.proofs.Common.{◌≡◌, List, [], ◌∷◌, ◌++◌, refl, sym, ◌∙◌, ap, subst}
-use Rattle.rlsf_model.specs.Note.{Note, alloc, grow, dealloc, LeadsBy, IsSameQuestion, AnswersAgree}
+use Rattle.rlsf_model.specs.Note.{Note, grow, LeadsBy, IsSameQuestion, AnswersAgree}
 use Rattle.rlsf_model.specs.Terms.{Terms}
 
 -- where some notes lead, more notes go on from

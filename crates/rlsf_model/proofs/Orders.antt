@@ -1,4 +1,5 @@
 -- The order of chunks and of used blocks means nothing.
+use Rattle.std.specs.Option.{option_map_or}
 use Rattle.std.proofs.Common.{◌≡◌, ◌↔◌, ℕ, zero, suc, ◌+◌, ◌-◌, Bool, true, false, cond, not, eqb, filter, map, List, [], ◌∷◌, Option}
 use Rattle.std.proofs.Common.{Some, None, find, true≢false, arith, refl, sym, ◌∙◌, ap, subst, inl, inr}
 use Rattle.std.proofs.lemmas.Bool.{eqb-true}
@@ -6,20 +7,21 @@ use Rattle.rlsf_base.specs.declared.memory.range.Range.{Range}
 use Rattle.rlsf_base.specs.Range.{end_of, range_at}
 use Rattle.rlsf_model_sizes.specs.Sizes.{max_pool_size, request_size}
 use Rattle.rlsf_model.specs.Allocate.{choice, placed, given, Allocates}
-use Rattle.rlsf_model.specs.Insert.{cut, aligned_part, body, with_chunk, with_chunks, grown_if, extended, appended, Inserts, Appends}
+use Rattle.rlsf_model.specs.Insert.{cut, aligned_part, body, with_chunks, extended, appended, Inserts, Appends, grown}
 use Rattle.rlsf_model.specs.Join.{join, ends_at}
 use Rattle.rlsf_model.specs.Laws.{OrderMeansNothing}
 use Rattle.rlsf_model.specs.Lists.{IsIn, without}
-use Rattle.rlsf_model.specs.Reallocate.{Plan, plan, moved, replanned, ReallocatesBy}
+use Rattle.rlsf_model.specs.Reallocate.{Plan, plan, ReallocatesBy}
 use Rattle.rlsf_model.specs.Release.{released, Deallocates}
 use Rattle.rlsf_model.specs.Remove.{lies_within, outside_of, removed}
 use Rattle.rlsf_model.specs.Run.{insert, append, allocate, deallocate, reallocate, fill, remove, trim, Fills}
-use Rattle.rlsf_model.specs.State.{State, Used, IsReordered, others, filled_if, filled}
+use Rattle.rlsf_model.specs.State.{State, Used, IsReordered, others, filled}
 use Rattle.rlsf_model.specs.WellFormed.{covers, itself, IsWellFormed}
 use Rattle.rlsf_model.proofs.Allocations.{Allocates-keeps}
 use Rattle.rlsf_model.proofs.Chunks.{used-inserted, used-appended}
 use Rattle.rlsf_model.proofs.Coverage.{by_test, covers-inside, coverage-IsIn, coverage-unique, coverage-without, find-some, find-none, IsIn-filter, IsIn-filter_from, IsIn-map}
 use Rattle.rlsf_model.proofs.Coverage.{IsIn-map_from, IsIn-without, IsIn-without_other}
+use Rattle.rlsf_model.proofs.Names.{moved, replanned, filled_if, with_chunk}
 
 -- ---- lists with the same elements
 
@@ -103,7 +105,7 @@ module _ {fllen sllen : ℕ} {memory : Range} {s s' : State} (w : IsWellFormed f
     (λ h. let (i, e) = none_ends w' at x h in IsIn-without_other (ends_at at) x s.chunks e ((r.chunks x).1 i)),
   )
 
-  grown_if-same : (o : Option Range) (n : ℕ) → HasSameRanges (grown_if o n s) (grown_if o n s')
+  grown_if-same : (o : Option Range) (n : ℕ) → HasSameRanges (option_map_or (λ c. grown c n s) o s) (option_map_or (λ c. grown c n s') o s')
   grown_if-same None n = r
   grown_if-same (Some c) n = record {
     chunks = HasSame-cons (range_at c.start (c.len + n)) (without (ends_at (end_of c)) s.chunks) (without (ends_at (end_of c)) s'.chunks) (HasSame-without (end_of c));
@@ -114,7 +116,8 @@ module _ {fllen sllen : ℕ} {memory : Range} {s s' : State} (w : IsWellFormed f
   extended-same at zero = r
   extended-same at (suc n) =
       let found = find-same (ends_at at) s.chunks s'.chunks r.chunks (one_ends w at) in
-      subst (λ o. HasSameRanges (grown_if (find (ends_at at) s.chunks) (suc n) s) (grown_if o (suc n) s')) found (grown_if-same (find (ends_at at) s.chunks) (suc n))
+      subst (λ o. HasSameRanges (option_map_or (λ c. grown c (suc n) s) (find (ends_at at) s.chunks) s) (option_map_or (λ c. grown c (suc n) s') o s')) found
+      (grown_if-same (find (ends_at at) s.chunks) (suc n))
 
   appended-same : (o : Option ℕ) (q : Range) → HasSameRanges (appended o q s) (appended o q s')
   appended-same o q = grind (arith, extended-same, with_chunks-same)

@@ -1,8 +1,10 @@
 -- The ranges that are outstanding are those that the source's answers leave outstanding.
-use Rattle.std.proofs.Common.{◌≡◌, ℕ, ◌+◌, true, false, Bool, cond, map, List, [], ◌∷◌, ◌++◌, Option, Some, None, true≢false, refl, sym, ◌∙◌, ap}
+use Rattle.std.proofs.Common.{◌≡◌, ℕ, ◌+◌, true, false, Bool, cond, map, List, [], ◌∷◌, ◌++◌, Option, Some, None, true≢false, refl, sym, ◌∙◌, ap, ◌^◌}
 use Rattle.std.proofs.Common.{subst, inl, inr}
 use Rattle.std.proofs.lemmas.Option.{none-some, same_Some}
 use Rattle.std.specs.Option.{is_some}
+use Rattle.std.specs.Bool.{then_some}
+use Rattle.std.specs.Prelude.{nat_lt}
 use Rattle.rlsf_base.specs.declared.memory.range.Range.{Range}
 use Rattle.rlsf_model_sizes.specs.Sizes.{pool_size_to_contain_allocation}
 use Rattle.rlsf_model.specs.End.{notes_at_end, owed_at_end}
@@ -11,14 +13,15 @@ use Rattle.rlsf_model.specs.FlexReallocate.{FlexReallocates}
 use Rattle.rlsf_model.specs.FlexRun.{FlexEvent, IsFlexRun, IsFlexStep, notes_in}
 use Rattle.rlsf_model.specs.FlexState.{FlexState, KeptPool}
 use Rattle.rlsf_model.specs.FlexWellFormed.{IsFlexWellFormed, IsNewest}
-use Rattle.rlsf_model.specs.Growth.{Extends, Outcome, range_came, growth_came, growth_note, if_fits, longer, notes_of, questions, questions_kept, range_note, refused}
+use Rattle.rlsf_model.specs.Growth.{Extends, Outcome, range_came, growth_came, longer, notes_of, questions, refused}
 use Rattle.rlsf_model.specs.Laws.{EachGoesBack}
 use Rattle.rlsf_model.specs.Note.{Note, dealloc}
 use Rattle.rlsf_model.specs.Owed.{OwesAfterAll}
-use Rattle.rlsf_model.specs.Run.{Event, insert, append, allocate, deallocate, reallocate, fill, remove, trim}
+use Rattle.rlsf_model.specs.Run.{Event, allocate, deallocate, reallocate, fill, trim}
 use Rattle.rlsf_model.specs.Terms.{Terms, with_len}
 use Rattle.rlsf_model.specs.Trim.{Trims}
 use Rattle.rlsf_model.proofs.FlexSteps.{flex_steps_keep_well_formed}
+use Rattle.rlsf_model.proofs.Names.{fitting, growth_note, range_note}
 
 OwesAfterAll-append : (xs ys zs : List Range) (ms ns : List Note) → OwesAfterAll xs ms ys → OwesAfterAll ys ns zs → OwesAfterAll xs (ms ++ ns) zs
 OwesAfterAll-append xs ys zs [] ns first second = subst (λ l. OwesAfterAll l ns zs) first second
@@ -57,15 +60,15 @@ owed-range_refused (Some n) owed = (owed, refl, refl)
 -- a growth is asked of the kept range
 growth_of_kept : (t : Terms) (k : KeptPool) (wanted : Option ℕ) (r : Range) (n : ℕ) → (questions t (Some k) wanted).growth ≡ Some (r, n) → r ≡ k.range
 growth_of_kept t k None r n is = absurd (none-some (r, n) is)
-growth_of_kept t k (Some e) r n is = by_length (if_fits (k.len + e)) is
+growth_of_kept t k (Some e) r n is = by_length (nat_lt (k.len + e) (2 ^ 64)) is
   where
-    by_terms : (b : Bool) (m : ℕ) → cond {A = Option (Range × ℕ)} b (Some (k.range, m)) None ≡ Some (r, n) → r ≡ k.range
-    by_terms true m same = sym (ap (λ (x : Range × ℕ). x.0) (same_Some (k.range, m) (r, n) same))
-    by_terms false m same = absurd (none-some (r, n) same)
+    by_terms : (b : Bool) → then_some {T = Range × ℕ} b (k.range, k.len + e) ≡ Some (r, n) → r ≡ k.range
+    by_terms true same = sym (ap (λ (x : Range × ℕ). x.0) (same_Some (k.range, k.len + e) (r, n) same))
+    by_terms false same = absurd (none-some (r, n) same)
 
-    by_length : (o : Option ℕ) → (questions_kept t k e o).growth ≡ Some (r, n) → r ≡ k.range
-    by_length None same = absurd (none-some (r, n) same)
-    by_length (Some m) same = by_terms t.grow m same
+    by_length : (b : Bool) → (fitting t k e b).growth ≡ Some (r, n) → r ≡ k.range
+    by_length false same = absurd (none-some (r, n) same)
+    by_length true same = by_terms t.grow same
 
 owed-growth : (k : KeptPool) (growth : Option (Range × ℕ)) (rest now : List Range) (len : ℕ) → is_some growth ≡ true
     → ((r : Range) (n : ℕ) → growth ≡ Some (r, n) → r ≡ k.range) → now ≡ with_len k.range len ∷ rest

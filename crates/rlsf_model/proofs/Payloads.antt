@@ -1,5 +1,5 @@
 -- Where a payload lies in its block, and how long the block is.
-use Rattle.std.proofs.Common.{◌≡◌, ◌≢◌, ℕ, zero, suc, ◌+◌, ◌-◌, ◌*◌, ◌/◌, ◌%◌, ◌^◌, ◌<◌, ◌≤◌, List, [], ◌∷◌, None, cond}
+use Rattle.std.proofs.Common.{◌≡◌, ◌≢◌, ℕ, suc, ◌+◌, ◌-◌, ◌*◌, ◌/◌, ◌%◌, ◌^◌, ◌<◌, ◌≤◌, List, [], ◌∷◌, None, cond}
 use Rattle.std.proofs.Common.{not, arith, inl, inr, refl, sym, ◌∙◌, ap, subst}
 use Rattle.std.proofs.lemmas.Bool.{cases_lt, le-leb, ne_eqb}
 use Rattle.std.proofs.lemmas.Nat.{pow_pos, pow-add}
@@ -8,10 +8,11 @@ use Rattle.std.specs.Int.{next_multiple_of}
 use Rattle.rlsf_base.specs.declared.memory.range.Range.{Range}
 use Rattle.rlsf_model_sizes.specs.PowerOfTwo.{IsPowerOfTwo, floor_log2}
 use Rattle.rlsf_model_sizes.specs.Sizes.{request_size}
+use Rattle.rlsf_model_sizes.specs.Rounding.{round32}
 use Rattle.rlsf_base.proofs.Numbers.PowersOfTwo.{IsPowerOfTwo-positive}
 use Rattle.rlsf_base.proofs.Numbers.Roundings.{next_multiple_of-le, next_multiple_of-lt, next_multiple_of-multiple}
 use Rattle.rlsf_model.specs.Lists.{IsIn}
-use Rattle.rlsf_model.specs.Payload.{payload_of, block_length}
+use Rattle.rlsf_model.specs.Payload.{payload_of}
 use Rattle.rlsf_model.specs.Reallocate.{in_place}
 use Rattle.rlsf_model.specs.State.{State, Used, others, usable}
 use Rattle.rlsf_model.specs.WellFormed.{IsUsed, IsWellFormed}
@@ -68,17 +69,17 @@ pub IsUsed-some : (u : Used) → IsUsed u → 0 < u.block.len
 IsUsed-some u is = omega (arith, IsUsed-after_start u is, is.within)
 
 -- the block has the payload's bytes, and less than 32 more
-pub block_length-le : (b p size : ℕ) → p - b + size ≤ block_length b p size
+pub block_length-le : (b p size : ℕ) → p - b + size ≤ round32 (p - b + size)
 block_length-le b p size = omega arith
 
-pub block_length-lt : (b p size : ℕ) → block_length b p size < p - b + size + 32
+pub block_length-lt : (b p size : ℕ) → round32 (p - b + size) < p - b + size + 32
 block_length-lt b p size = omega arith
 
-pub block_length-whole : (b p size : ℕ) → block_length b p size % 32 ≡ 0
+pub block_length-whole : (b p size : ℕ) → round32 (p - b + size) % 32 ≡ 0
 block_length-whole b p size = omega arith
 
 -- the block is not longer than what is sought
-pub block_length-request : (b size align : ℕ) → b % 32 ≡ 0 → IsPowerOfTwo align → block_length b (payload_of b align) size ≤ request_size size align
+pub block_length-request : (b size align : ℕ) → b % 32 ≡ 0 → IsPowerOfTwo align → round32 (payload_of b align - b + size) ≤ request_size size align
 block_length-request b size align whole power = grind (arith, payload_of-le)
 
 -- used blocks none of which has the address are all left without it

@@ -1,4 +1,5 @@
 -- The plans of a reallocation: where a block and its payload can go.
+use Rattle.std.specs.Option.{option_or, option_map_or, option_and_then}
 use Rattle.std.proofs.Common.{◌≡◌, ◌≢◌, ℕ, ◌+◌, ◌-◌, ◌%◌, ◌<◌, ◌≤◌, ◌⊎◌, Bool, true, cond, leb, List, [], ◌∷◌, ◌++◌}
 use Rattle.std.proofs.Common.{Option, Some, None, find, length, arith, refl, sym, ap, subst, inl, inr}
 use Rattle.std.proofs.lemmas.Bool.Decides.{nat_tests}
@@ -6,10 +7,10 @@ use Rattle.std.proofs.lemmas.Bool.{cases_lt, lt-ltb, le-ltb, leb-true}
 use Rattle.rlsf_base.specs.declared.memory.range.Range.{Range}
 use Rattle.rlsf_base.specs.Range.{end_of}
 use Rattle.rlsf_model.specs.Allocate.{rest_behind}
-use Rattle.rlsf_model.specs.Join.{join, ends_at, starts_at, end_or}
+use Rattle.rlsf_model.specs.Join.{join, ends_at, starts_at}
 use Rattle.rlsf_model.specs.Lists.{IsIn, without}
 use Rattle.rlsf_model.specs.Payload.{payload_of, block_for}
-use Rattle.rlsf_model.specs.Reallocate.{Plan, resized, tail_joined, in_place, into_next, into_previous, into_previous_at, or_else, plan, moved, replanned}
+use Rattle.rlsf_model.specs.Reallocate.{Plan, in_place, into_next, into_previous, plan}
 use Rattle.rlsf_model.specs.State.{State, Used, between, others}
 use Rattle.rlsf_model.specs.WellFormed.{covers, coverage, itself, IsWhole, IsUsed, IsWellFormed}
 use Rattle.rlsf_model.proofs.Changes.{reblocked, coverage-others, IsIn-others, coverage-rest_behind, IsIn-rest_behind, IsApart-rest_behind}
@@ -18,6 +19,7 @@ use Rattle.rlsf_model.proofs.Joins.{IsSound, IsSound-without, IsLeft, left_of, r
 use Rattle.rlsf_model.proofs.Payloads.{payload_of-after, IsUsed-after_start}
 use Rattle.rlsf_model.proofs.Releases.{IsSound-free}
 use Rattle.rlsf_model.proofs.Tiling.{block_of, tiling_of, blocks-le}
+use Rattle.rlsf_model.proofs.Names.{resized, moved, replanned, tail_joined, previous_plan}
 
 -- a plan that leaves a state well-formed, and whose payload has the size asked
 pub record IsSoundPlan (s : State) (u : Used) (size : ℕ) (p : Plan) : Type 0 where
@@ -89,7 +91,7 @@ module _ {fllen sllen : ℕ} {memory : Range} {s : State} (w : IsWellFormed flle
     apart = IsApart-rest_behind block end rest some sound.apart (λ g j. (sound.whole g j).1) starts clear;
   }
 
-  into_next_sound : (let end = end_or (end_of u.block) (find (starts_at (end_of u.block)) s.free) in end_of (resized u size) ≤ end
+  into_next_sound : (let end = option_map_or end_of (find (starts_at (end_of u.block)) s.free) (end_of u.block) in end_of (resized u size) ≤ end
       → IsSoundPlan s u size (record { block = resized u size; payload = u.payload; free = rest_behind (resized u size) end ++ without (starts_at (end_of u.block)) s.free }))
   into_next_sound fits =
       let is = w.used u h in
@@ -97,7 +99,7 @@ module _ {fllen sllen : ℕ} {memory : Range} {s : State} (w : IsWellFormed flle
       let after_start = IsUsed-after_start u is in
       let within = is.within in
       let block = resized u size in
-      let end = end_or (end_of u.block) (find (starts_at (end_of u.block)) s.free) in
+      let end = option_map_or end_of (find (starts_at (end_of u.block)) s.free) (end_of u.block) in
       let rest = without (starts_at (end_of u.block)) s.free in
       let base = IsSound-free w in
       let right = right_of (end_of u.block) s.free (omega (arith, whole.start, whole.len)) base in
@@ -121,7 +123,7 @@ module _ {fllen sllen : ℕ} {memory : Range} {s : State} (w : IsWellFormed flle
 
   into_previous_sound : (f : Range) → find (ends_at u.block.start) s.free ≡ Some f
       → (let rest = without (ends_at u.block.start) s.free in
-      let end = end_or (end_of u.block) (find (starts_at (end_of u.block)) rest) in
+      let end = option_map_or end_of (find (starts_at (end_of u.block)) rest) (end_of u.block) in
       let block = block_for f.start (payload_of f.start u.align) size in
       end_of block ≤ end → IsSoundPlan s u size
       (record { block = block; payload = payload_of f.start u.align; free = rest_behind block end ++ without (starts_at (end_of u.block)) rest }))
@@ -131,7 +133,7 @@ module _ {fllen sllen : ℕ} {memory : Range} {s : State} (w : IsWellFormed flle
       let after_start = IsUsed-after_start u is in
       let within = is.within in
       let rest = without (ends_at u.block.start) s.free in
-      let end = end_or (end_of u.block) (find (starts_at (end_of u.block)) rest) in
+      let end = option_map_or end_of (find (starts_at (end_of u.block)) rest) (end_of u.block) in
       let last = without (starts_at (end_of u.block)) rest in
       let payload = payload_of f.start u.align in
       let block = block_for f.start payload size in
@@ -184,21 +186,21 @@ module _ {fllen sllen : ℕ} {memory : Range} {s : State} (w : IsWellFormed flle
   pub IsSound-into_previous : (p : Plan) → into_previous s u size ≡ Some p → IsSoundPlan s u size p
   IsSound-into_previous p e = go (find (ends_at u.block.start) s.free) refl e
     where
-      go : (o : Option Range) → find (ends_at u.block.start) s.free ≡ o → into_previous_at s u size o ≡ Some p → IsSoundPlan s u size p
+      go : (o : Option Range) → find (ends_at u.block.start) s.free ≡ o → option_and_then (previous_plan s u size) o ≡ Some p → IsSoundPlan s u size p
       go None found e = absurd (cc)
       go (Some f) found e =
           let rest = without (ends_at u.block.start) s.free in
-          let end = end_or (end_of u.block) (find (starts_at (end_of u.block)) rest) in
+          let end = option_map_or end_of (find (starts_at (end_of u.block)) rest) (end_of u.block) in
           let block = block_for f.start (payload_of f.start u.align) size in
           tested (leb (end_of block) end)
           (record { block = block; payload = payload_of f.start u.align; free = rest_behind block end ++ without (starts_at (end_of u.block)) rest }) p
           (λ fits. into_previous_sound f found (leb-true (end_of block) end fits)) e
 
-  or_else-some : (q r : Option Plan) (p : Plan) → or_else q r ≡ Some p → (q ≡ Some p) ⊎ (r ≡ Some p)
+  or_else-some : (q r : Option Plan) (p : Plan) → option_or q r ≡ Some p → (q ≡ Some p) ⊎ (r ≡ Some p)
   or_else-some o r p e = grind arith
 
   pub IsSound-plan : (p : Plan) → plan s u size ≡ Some p → IsSoundPlan s u size p
-  IsSound-plan p e = elim (or_else-some (in_place s u size) (or_else (into_next s u size) (into_previous s u size)) p e) [
+  IsSound-plan p e = elim (or_else-some (in_place s u size) (option_or (into_next s u size) (into_previous s u size)) p e) [
     | inl a ↦ IsSound-in_place p a
     | inr b ↦ elim (or_else-some (into_next s u size) (into_previous s u size) p b) [
       | inl a ↦ IsSound-into_next p a

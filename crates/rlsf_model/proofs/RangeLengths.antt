@@ -1,4 +1,6 @@
 -- How long a range is asked for, and that a pool has room in what comes.
+use Rattle.std.specs.Bool.{then_some}
+use Rattle.std.specs.Prelude.{nat_lt}
 use Rattle.std.proofs.Common.{◌≡◌, ◌⊎◌, ℕ, ◌+◌, ◌-◌, ◌*◌, ◌/◌, ◌%◌, ◌^◌, ◌≤◌, List, Option, Some, None, arith}
 use Rattle.std.proofs.Common.{◌∙◌, ap}
 use Rattle.std.proofs.lemmas.Bool.Decides.{nat_tests}
@@ -10,12 +12,12 @@ use Rattle.rlsf_base.specs.declared.memory.range.Range.{Range}
 use Rattle.rlsf_model_sizes.specs.PowerOfTwo.{floor_log2, IsPowerOfTwo}
 use Rattle.rlsf_base.proofs.Numbers.PowersOfTwo.{floor_log2-lt, pow-between}
 use Rattle.rlsf_model.specs.FlexState.{KeptPool}
-use Rattle.rlsf_model.specs.Growth.{if_fits, questions_for, range_length}
+use Rattle.rlsf_model.specs.Growth.{range_length, questions}
 use Rattle.rlsf_model.specs.PoolLength.{HasAlignedPart}
 use Rattle.rlsf_model.specs.Terms.{IsGiven, Terms}
 
 -- a number that fits is itself
-pub if_fits-some : (n len : ℕ) → if_fits n ≡ Some len → len ≡ n
+pub if_fits-some : (n len : ℕ) → then_some (nat_lt n (2 ^ 64)) n ≡ Some len → len ≡ n
 if_fits-some n len told = grind (arith, cases_lt, same_Some, lt-ltb, none-some, le-ltb)
 
 -- 32 bytes more than are wanted, or what is wanted where all starts are multiples of 32
@@ -38,6 +40,6 @@ pub HasAlignedPart-given : (t : Terms) (owed : List Range) (e len : ℕ) (r : Ra
 HasAlignedPart-given t owed e len r told g = grind (arith, range_length-is, wide_whole)
 
 -- a range that is asked for has that length
-pub range_asked : (t : Terms) (kept : Option KeptPool) (e n : ℕ) → (questions_for t kept e).range ≡ Some n → range_length t e ≡ Some n
+pub range_asked : (t : Terms) (kept : Option KeptPool) (e n : ℕ) → (questions t kept (Some e)).range ≡ Some n → range_length t e ≡ Some n
 range_asked t None e n asked = asked
 range_asked t (Some k) e n asked = grind (arith, nat_tests, none-some)

@@ -1,4 +1,5 @@
 -- States on the way to a refusal in a chunk that is too short, and the steps between them.
+use Rattle.std.specs.Option.{option_or}
 use Rattle.std.proofs.Common.{◌≡◌, ℕ, ◌+◌, ◌-◌, ◌*◌, ◌/◌, ◌%◌, ◌<◌, ◌≤◌, ◌⊎◌, [], ◌∷◌, Option, Some, None, cond, arith, refl, sym}
 use Rattle.std.proofs.Common.{◌∙◌, ap, subst, inl, inr}
 use Rattle.std.proofs.lemmas.Bool.{cases_lt, le-leb}
@@ -11,7 +12,7 @@ use Rattle.rlsf_model_sizes.specs.Sizes.{IsSize, request_size}
 use Rattle.rlsf_model.specs.Allocate.{Allocates, placed}
 use Rattle.rlsf_model.specs.Lists.{IsIn}
 use Rattle.rlsf_model.specs.Payload.{payload_of}
-use Rattle.rlsf_model.specs.Reallocate.{Plan, Reallocates, ReallocatesBy, into_next, into_previous, moved, or_else, plan, resized, tail_joined}
+use Rattle.rlsf_model.specs.Reallocate.{Plan, Reallocates, ReallocatesBy, into_next, into_previous, plan}
 use Rattle.rlsf_model.specs.Run.{allocate}
 use Rattle.rlsf_model.specs.State.{State, Used, Holds, others}
 use Rattle.rlsf_model.specs.WellFormed.{coverage, covers, itself, last_bytes, IsWellFormed}
@@ -23,6 +24,7 @@ use Rattle.rlsf_model.proofs.Payloads.{IsUsed-some}
 use Rattle.rlsf_model.proofs.Room.{allocation_answers}
 use Rattle.rlsf_model.proofs.Steps.{steps_keep_well_formed}
 use Rattle.rlsf_model.proofs.Tiling.{IsPart-free, block_of, blocks-le, free-le, lies_in_chunk, tiling_of}
+use Rattle.rlsf_model.proofs.Names.{resized, moved, tail_joined}
 
 -- ---- states
 
@@ -270,7 +272,7 @@ shrinks fllen sllen memory s u from old len z h plain seeks less =
     let fits : end_of (resized u z) ≤ end_of u.block = omega (arith, start, end, long, less) in
     let p : Plan = record { block = resized u z; payload = u.payload; free = tail_joined (resized u z) (end_of u.block) s.free } in
     let planned : plan s u z ≡ Some p =
-    ap (λ b. or_else (cond b (Some p) None) (or_else (into_next s u z) (into_previous s u z))) (le-leb (end_of (resized u z)) (end_of u.block) fits) in
+    ap (λ b. option_or (cond b (Some p) None) (option_or (into_next s u z) (into_previous s u z))) (le-leb (end_of (resized u z)) (end_of u.block) fits) in
     let t = planned_after sllen s u z (Some p) in
     record {
       after = t;

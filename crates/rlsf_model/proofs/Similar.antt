@@ -9,7 +9,7 @@ use Rattle.rlsf_model.specs.Join.{join}
 use Rattle.rlsf_model.specs.Laws.{FillIsSimilar, SimilarStatesAgree}
 use Rattle.rlsf_model.specs.Lists.{IsIn}
 use Rattle.rlsf_model.specs.Payload.{payload_of}
-use Rattle.rlsf_model.specs.Reallocate.{Plan, plan, moved, ReallocatesBy, Reallocates}
+use Rattle.rlsf_model.specs.Reallocate.{Plan, plan, ReallocatesBy, Reallocates}
 use Rattle.rlsf_model.specs.Release.{Deallocates}
 use Rattle.rlsf_model.specs.Remove.{removed}
 use Rattle.rlsf_model.specs.Run.{insert, append, allocate, deallocate, reallocate, fill, remove, trim}
@@ -22,6 +22,7 @@ use Rattle.rlsf_model.proofs.Coverage.{IsIn-map, IsIn-map_from}
 use Rattle.rlsf_model.proofs.Determined.{other_shapes, map-others}
 use Rattle.rlsf_model.proofs.Fillings.{AreAlike-filled}
 use Rattle.rlsf_model.proofs.Orders.{HasSame, HasSame-cons, HasSame-filter, HasSameRanges, HasSameRanges-inserted, HasSameRanges-appended, HasSameRanges-removed}
+use Rattle.rlsf_model.proofs.Names.{moved}
 
 -- ---- used blocks with the same shapes
 

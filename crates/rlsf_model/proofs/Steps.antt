@@ -4,7 +4,7 @@ use Rattle.rlsf_base.specs.declared.memory.range.Range.{Range}
 use Rattle.rlsf_model.specs.Laws.{EmptyIsWellFormed, StepsKeepWellFormed, RunsKeepWellFormed}
 use Rattle.rlsf_model.specs.Lists.{IsIn}
 use Rattle.rlsf_model.specs.Run.{insert, append, allocate, deallocate, reallocate, fill, remove, trim, Fills}
-use Rattle.rlsf_model.specs.State.{State, Used, filled_at}
+use Rattle.rlsf_model.specs.State.{State, Used}
 use Rattle.rlsf_model.specs.WellFormed.{IsUsed, IsWellFormed}
 use Rattle.rlsf_model.proofs.Allocations.{Allocates-keeps}
 use Rattle.rlsf_model.proofs.Appends.{Appends-keeps}
@@ -14,6 +14,7 @@ use Rattle.rlsf_model.proofs.Insertions.{Inserts-keeps}
 use Rattle.rlsf_model.proofs.Reallocations.{Reallocates-keeps}
 use Rattle.rlsf_model.proofs.Releases.{Deallocates-keeps}
 use Rattle.rlsf_model.proofs.Removals.{Removes-keeps}
+use Rattle.rlsf_model.proofs.Names.{filled_at}
 
 pub empty_is_well_formed : EmptyIsWellFormed
 empty_is_well_formed fllen sllen memory rows row_length addressable = grind arith

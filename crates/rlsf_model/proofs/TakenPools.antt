@@ -1,4 +1,5 @@
 -- An inserted range, complete except for some bytes at its ends, makes the awaited allocation succeed.
+use Rattle.std.specs.Option.{option_map_or}
 use Rattle.std.proofs.Common.{◌≡◌, ℕ, ◌+◌, ◌-◌, ◌*◌, ◌/◌, ◌%◌, ◌<◌, ◌≤◌, List, Option, Some, None, find, true≢false, arith, refl}
 use Rattle.std.proofs.Common.{sym, ◌∙◌, ap, subst, inl, inr}
 use Rattle.std.proofs.lemmas.Bool.{cases_lt, eq-eqb, eqb-true}
@@ -13,7 +14,7 @@ use Rattle.rlsf_base.proofs.SizeMaps.PoolSizes.{max_pool_size-some}
 use Rattle.rlsf_base.proofs.SizeMaps.Laws.{pool_contains_its_allocation, pool_is_one_chunk}
 use Rattle.rlsf_base.proofs.SizeMaps.RowLengths.{IsPower-row_length}
 use Rattle.rlsf_model.specs.Allocate.{choice, Allocates}
-use Rattle.rlsf_model.specs.Insert.{aligned_part, appended, appended_bytes, body, bytes_taken, cut, end_of_last, extended, grown, grown_if, with_chunks, Appends, Inserts, IsNext}
+use Rattle.rlsf_model.specs.Insert.{aligned_part, appended, appended_bytes, body, bytes_taken, cut, end_of_last, extended, grown, with_chunks, Appends, Inserts, IsNext}
 use Rattle.rlsf_model.specs.Join.{ends_at}
 use Rattle.rlsf_model.specs.Lists.{IsIn}
 use Rattle.rlsf_model.specs.PoolLength.{HasAlignedPart, HasFreePool, IsPoolSize}
@@ -158,13 +159,13 @@ module _ {fllen sllen : ℕ} {memory : Range} {s : State} (w : IsWellFormed flle
 
   -- the chunk that ends there is found
   grown_if_pool : (c : Range) → IsIn c s.chunks → end_of c ≡ r.start → (o : Option Range) → find (ends_at r.start) s.chunks ≡ o
-      → IsTaken s r m (grown_if o m s) × HasFreePool e (grown_if o m s)
+      → IsTaken s r m (option_map_or (λ c. grown c m s) o s) × HasFreePool e (option_map_or (λ c. grown c m s) o s)
   grown_if_pool c is_chunk ends None none = absurd (true≢false (sym (eq-eqb (end_of c) r.start ends) ∙ find-none (ends_at r.start) c s.chunks none is_chunk))
   grown_if_pool c is_chunk ends (Some d) found =
       let (is_in, passes) = find-some (ends_at r.start) d s.chunks found in
       grown_pool d is_in (eqb-true (end_of d) r.start passes)
 
-extended-some : (at n : ℕ) (s : State) → 0 < n → extended at n s ≡ grown_if (find (ends_at at) s.chunks) n s
+extended-some : (at n : ℕ) (s : State) → 0 < n → extended at n s ≡ option_map_or (λ c. grown c n s) (find (ends_at at) s.chunks) s
 extended-some at n' s some = grind arith
 
 -- a range that is appended is taken, and has a pool

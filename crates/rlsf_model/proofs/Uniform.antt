@@ -1,7 +1,8 @@
 -- States whose blocks all have one length.
-use Rattle.std.proofs.Common.{◌≡◌, ℕ, zero, suc, ◌+◌, ◌-◌, ◌*◌, ◌/◌, ◌%◌, ◌^◌, ◌<◌, ◌≤◌, ◌⊎◌, ◌↔◌, List, [], ◌∷◌}
+use Rattle.std.proofs.Common.{◌≡◌, ℕ, suc, ◌+◌, ◌-◌, ◌*◌, ◌/◌, ◌%◌, ◌^◌, ◌<◌, ◌≤◌, ◌⊎◌, ◌↔◌, List, [], ◌∷◌}
 use Rattle.std.proofs.Common.{Option, Some, None, find, length, arith, refl, sym, ◌∙◌, ap, subst, inl, inr}
 use Rattle.std.specs.Prelude.{sum_by}
+use Rattle.std.specs.Option.{option_map_or}
 use Rattle.std.proofs.lemmas.Bool.{cases_lt}
 use Rattle.std.proofs.lemmas.List.Sums.{sum_by-cons}
 use Rattle.std.proofs.lemmas.Nat.{div-mul-add, le-div}
@@ -11,16 +12,17 @@ use Rattle.rlsf_model_sizes.specs.PowerOfTwo.{IsPowerOfTwo}
 use Rattle.rlsf_base.specs.Range.{end_of}
 use Rattle.rlsf_model_sizes.specs.SizeClass.{class_of, Reaches}
 use Rattle.rlsf_model_sizes.specs.Sizes.{request_size}
+use Rattle.rlsf_model_sizes.specs.Rounding.{round32}
 use Rattle.rlsf_base.proofs.Numbers.PowersOfTwo.{floor_log2-mono, IsPowerOfTwo-positive}
 use Rattle.rlsf_base.proofs.Numbers.Roundings.{round32-le}
 use Rattle.rlsf_base.proofs.SizeClasses.Order.{Reaches-IsAtMost, IsAtMost-class_of}
 use Rattle.rlsf_base.proofs.SizeClasses.Reach.{division-lt, Reaches-class_of}
 use Rattle.rlsf_model.specs.Budget.{total_len}
 use Rattle.rlsf_model.specs.Allocate.{has_class, rest_behind, placed, Allocates}
-use Rattle.rlsf_model.specs.Join.{ends_at, starts_at, start_or}
+use Rattle.rlsf_model.specs.Join.{ends_at, starts_at}
 use Rattle.rlsf_model.specs.Lists.{IsIn, without}
-use Rattle.rlsf_model.specs.Payload.{payload_of, block_length}
-use Rattle.rlsf_model.specs.Run.{Event, insert, append, allocate, deallocate, reallocate, fill, remove, trim, Leads, MayCall}
+use Rattle.rlsf_model.specs.Payload.{payload_of}
+use Rattle.rlsf_model.specs.Run.{Event, allocate, deallocate, fill, remove, trim, Leads, MayCall}
 use Rattle.rlsf_model.specs.Sizing.{UniformIsFull, AllocationKeepsUniform, DeallocationKeepsUniform, RunsKeepUniform, UniformRunsAnswer}
 use Rattle.rlsf_model.specs.State.{State, Used}
 use Rattle.rlsf_model.specs.Uniform.{IsTimes, IsUniform, AsksUniformly, blocks_in, IsDeniedOnlyAt, AreDeniedOnlyAt}
@@ -131,11 +133,11 @@ uniform_is_full fllen sllen memory s t c size align reply w is begins step =
 -- ---- steps
 
 -- at an alignment of 32 or less a block is as long as what is sought
-block_length-pow : (k b size : ℕ) → k ≤ 5 → b % 32 ≡ 0 → block_length b (payload_of b (2 ^ k)) size ≡ request_size size (2 ^ k)
+block_length-pow : (k b size : ℕ) → k ≤ 5 → b % 32 ≡ 0 → round32 (payload_of b (2 ^ k) - b + size) ≡ request_size size (2 ^ k)
 block_length-pow (suc (suc (suc (suc (suc (suc k)))))) b size few whole = absurd (omega arith)
 block_length-pow n b size few whole = omega arith
 
-block_length-exact : (b size align : ℕ) → b % 32 ≡ 0 → IsPowerOfTwo align → align ≤ 32 → block_length b (payload_of b align) size ≡ request_size size align
+block_length-exact : (b size align : ℕ) → b % 32 ≡ 0 → IsPowerOfTwo align → align ≤ 32 → round32 (payload_of b align - b + size) ≡ request_size size align
 block_length-exact b size align whole power small = grind (arith, block_length-pow, floor_log2-mono, IsPowerOfTwo-positive)
 
 pub allocation_keeps_uniform : AllocationKeepsUniform
@@ -171,13 +173,13 @@ deallocation_keeps_uniform len s t c addr is step =
       used = λ v i. is.used v (IsIn-others u.payload v s.used i).0;
       free = λ g. elim [
         | inl same ↦
-            let start : g.start ≡ start_or r.start (find (ends_at r.start) s.free) = ap (λ x. x.start) same in
+            let start : g.start ≡ option_map_or (λ f. f.start) (find (ends_at r.start) s.free) r.start = ap (λ x. x.start) same in
             subst (IsTimes c.start len) (sym start) (low (find (ends_at r.start) s.free) refl)
         | inr i ↦ is.free g (IsIn-without (ends_at r.start) g s.free (IsIn-without (starts_at (end_of r)) g (without (ends_at r.start) s.free) i))
       ];
     })
   where
-    low : (o : Option Range) → find (ends_at step.block.block.start) s.free ≡ o → IsTimes c.start len (start_or step.block.block.start o)
+    low : (o : Option Range) → find (ends_at step.block.block.start) s.free ≡ o → IsTimes c.start len (option_map_or (λ f. f.start) o step.block.block.start)
     low None e = (is.used step.block step.holds.0).1
     low (Some f) e = is.free f (find-some (ends_at step.block.block.start) f s.free e).0
 

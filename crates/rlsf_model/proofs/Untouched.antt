@@ -5,12 +5,13 @@ use Rattle.rlsf_base.specs.declared.memory.range.Range.{Range}
 use Rattle.rlsf_base.proofs.Numbers.Roundings.{round32-le}
 use Rattle.rlsf_base.specs.Range.{AreApart, LiesIn}
 use Rattle.rlsf_model_sizes.specs.Sizes.{max_pool_size}
-use Rattle.rlsf_model.specs.Insert.{Inserts, IsFresh, IsUntouched, aligned_part, cut, with_chunk, with_chunks}
+use Rattle.rlsf_model.specs.Insert.{Inserts, IsFresh, IsUntouched, aligned_part, cut, with_chunks}
 use Rattle.rlsf_model.specs.State.{State, empty}
 use Rattle.rlsf_model.specs.WellFormed.{covers, coverage, itself}
 use Rattle.rlsf_model.proofs.Coverage.{covers-before, covers-behind, covers-inside}
 use Rattle.rlsf_model.proofs.Cuts.{coverage-cut}
 use Rattle.rlsf_model.proofs.Insertions.{IsWhole-aligned_part}
+use Rattle.rlsf_model.proofs.Names.{with_chunk}
 
 -- without chunks every range is untouched
 pub untouched_empty : (r : Range) → IsUntouched empty.chunks r

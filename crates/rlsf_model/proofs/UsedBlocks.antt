@@ -3,12 +3,13 @@ use Rattle.std.proofs.Common.{◌≡◌, ◌≢◌, ℕ, List, ◌∷◌, Option
 use Rattle.rlsf_model.specs.Allocate.{placed, Allocates}
 use Rattle.rlsf_model.specs.Laws.{CallReturns}
 use Rattle.rlsf_model.specs.Lists.{IsIn}
-use Rattle.rlsf_model.specs.Reallocate.{Plan, plan, moved, ReallocatesBy}
+use Rattle.rlsf_model.specs.Reallocate.{Plan, plan, ReallocatesBy}
 use Rattle.rlsf_model.specs.Run.{Event, insert, append, allocate, deallocate, reallocate, fill, remove, trim, CallNames, Leads}
-use Rattle.rlsf_model.specs.State.{State, Used, Holds, others, filled_at}
+use Rattle.rlsf_model.specs.State.{State, Used, Holds, others}
 use Rattle.rlsf_model.proofs.Changes.{IsIn-others, IsIn-others_from}
 use Rattle.rlsf_model.proofs.Chunks.{used-inserted, used-appended}
 use Rattle.rlsf_model.proofs.Fillings.{IsIn-filled_other, IsIn-filled_other_from}
+use Rattle.rlsf_model.proofs.Names.{moved, filled_at}
 
 -- the alignment of a block that a call makes: the requested one, or that of a block that there was
 abbrev pub IsGivenAlign : List Used → Event → ℕ → Type 0

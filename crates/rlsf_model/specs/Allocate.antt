@@ -1,6 +1,7 @@
 -- A free range gives its front to a new used block.
 use Rattle.std.specs.Prelude.{◌≡◌, ℕ, ◌-◌, Bool, ◌&&◌, ◌||◌, List, [], ◌∷◌, ◌++◌, length, Option, Some, None, IsSome, find, option_and_then, nat_le}
 use Rattle.std.specs.Prelude.{nat_lt, ◌==◌, if◌then◌else◌}
+use Rattle.std.specs.Option.{option_map_or}
 use Rattle.rlsf_base.specs.declared.memory.range.Range.{Range}
 use Rattle.rlsf_base.specs.Range.{end_of}
 use Rattle.rlsf_model_sizes.specs.SizeClass.{SizeClass, class_of, reaches}
@@ -9,26 +10,18 @@ use Rattle.rlsf_model.specs.Lists.{without}
 use Rattle.rlsf_model.specs.Payload.{payload_of, block_for}
 use Rattle.rlsf_model.specs.State.{State, Used, between}
 
--- whether a class is the other one or comes before it
-abbrev pub is_at_most : SizeClass → SizeClass → Bool
-is_at_most c d = nat_lt c.exponent d.exponent || (c.exponent == d.exponent && nat_le c.division d.division)
-
 -- whether a range has the class
 abbrev pub has_class : ℕ → SizeClass → Range → Bool
 has_class sllen c f = (class_of sllen f.len).exponent == c.exponent && (class_of sllen f.len).division == c.division
 
--- the earlier one of two classes, or the only one
-abbrev pub earlier : SizeClass → Option SizeClass → SizeClass
-earlier c None = c
-earlier c (Some d) = if is_at_most c d then c else d
-
--- the least one of the classes of some ranges that reach a size
+-- the least one of the classes of some ranges that reach a size: the earliest one, by the row and then by the place in it
 abbrev pub least_reaching : ℕ → ℕ → List Range → Option SizeClass
 least_reaching sllen size [] = None
 least_reaching sllen size (f ∷ fs) =
     let c = class_of sllen f.len in
     let least = least_reaching sllen size fs in
-    if reaches sllen c size then Some (earlier c least) else least
+    let earlier = option_map_or (λ d. if nat_lt c.exponent d.exponent || (c.exponent == d.exponent && nat_le c.division d.division) then c else d) least c in
+    if reaches sllen c size then Some earlier else least
 
 -- the first range of the list that has that class
 abbrev pub choice : ℕ → ℕ → List Range → Option Range

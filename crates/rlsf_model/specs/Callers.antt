@@ -1,40 +1,31 @@
 -- What callers see of the reference model: a map from addresses to payloads, and nothing of chunks, blocks or free ranges.
-use Rattle.std.specs.Prelude.{◌≡◌, ◌≢◌, ℕ, ◌+◌, ◌<◌, ◌≤◌, ◌==◌, List, [], ◌∷◌, length, Option, Some, None, find}
+use Rattle.std.specs.Prelude.{◌≡◌, ◌≢◌, ℕ, ◌+◌, ◌<◌, ◌≤◌, ◌==◌, List, [], ◌∷◌, ◌++◌, length, take, drop, Option, Some, None, find}
 use Rattle.std.specs.List.{splice}
-use Rattle.std.specs.Option.{option_map}
+use Rattle.std.specs.Option.{option_map, option_map_or}
 use Rattle.rlsf_model.specs.Reallocate.{Keeps}
 use Rattle.rlsf_model.specs.Run.{Event, insert, append, allocate, deallocate, reallocate, fill, remove, trim}
-use Rattle.rlsf_model.specs.State.{State, Used, with_front}
+use Rattle.rlsf_model.specs.State.{State}
 
 -- a payload: the requested alignment, and its bytes, all that its caller may use
 pub record Payload : Type 0 where
   pub align : ℕ
   pub bytes : List ℕ
 
--- the payload of a used block
-abbrev pub payload_in : Used → Payload
-payload_in u = record { align = u.align; bytes = u.bytes }
-
--- the payload that is live at an address, or none
+-- the payload that is live at an address, that of the used block whose caller has it, or none
 abbrev pub payload_at : State → ℕ → Option Payload
-payload_at s addr = option_map payload_in (find (λ u. u.payload == addr) s.used)
+payload_at s addr = option_map (λ u. record { align = u.align; bytes = u.bytes }) (find (λ u. u.payload == addr) s.used)
 
 -- the alignment of the payload at an address, or none where no payload is
 unfoldable pub align_at : State → ℕ → Option ℕ
 align_at s addr = option_map (λ p. p.align) (payload_at s addr)
 
--- the bytes of a payload, or none of a payload that isn't there
-abbrev pub bytes_or_none : Option Payload → List ℕ
-bytes_or_none None = []
-bytes_or_none (Some p) = p.bytes
-
 -- the bytes of the payload at an address, or none where no payload is
 unfoldable pub bytes_at : State → ℕ → List ℕ
-bytes_at s addr = bytes_or_none (payload_at s addr)
+bytes_at s addr = option_map_or (λ p. p.bytes) (payload_at s addr) []
 
--- the bytes of the payload at `to` once the first `len` of the one at `from` are copied over its first
+-- the bytes of the payload at `to` once the first `len` of the one at `from` are copied over its first: these, and behind them its own
 abbrev pub copied_over : State → ℕ → ℕ → ℕ → List ℕ
-copied_over s from to len = with_front len (bytes_at s from) (bytes_at s to)
+copied_over s from to len = take len (bytes_at s from) ++ drop len (bytes_at s to)
 
 -- the bytes of the payload at an address once others are written over them from an offset on
 abbrev pub written_over : State → ℕ → ℕ → List ℕ → List ℕ

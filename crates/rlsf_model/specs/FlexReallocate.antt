@@ -8,11 +8,6 @@ use Rattle.rlsf_model.specs.Reallocate.{MovesAway, Reallocates, plan}
 use Rattle.rlsf_model.specs.State.{State, Used, Holds}
 use Rattle.rlsf_model.specs.Terms.{Terms}
 
--- the used block at the address can't get the size with the free ranges that there are beside it
-pub record IsStuck (s : State) (addr size : ℕ) (u : Used) : Type 0 where
-  pub holds : Holds s addr u
-  pub no_plan : plan s u size ≡ None
-
 -- in the room that is there, with no note
 pub record ReallocatesInRoom (sllen : ℕ) (s : FlexState) (addr size to : ℕ) (notes : List Note) (u : FlexState) : Type 0 where
   pub machine : State
@@ -20,10 +15,11 @@ pub record ReallocatesInRoom (sllen : ℕ) (s : FlexState) (addr size to : ℕ) 
   pub none : notes ≡ []
   pub after : u ≡ with_machine s machine
 
--- into the memory that came: the block moves there, to another address
+-- into the memory that came, since the free ranges beside the block don't give it the size: the block moves there, to another address
 pub record ReallocatesInMore (fllen sllen : ℕ) (t : Terms) (s : FlexState) (addr size to : ℕ) (notes : List Note) (u : FlexState) : Type 0 where
   pub block : Used
-  pub stuck : IsStuck s.machine addr size block
+  pub holds : Holds s.machine addr block
+  pub no_plan : plan s.machine block size ≡ None
   pub outcome : Outcome
   pub meanwhile : FlexState
   pub asks : Asks fllen sllen t s size block.align outcome notes meanwhile
@@ -33,10 +29,11 @@ pub record ReallocatesInMore (fllen sllen : ℕ) (t : Terms) (s : FlexState) (ad
   pub elsewhere : to ≢ addr
   pub after : u ≡ with_machine meanwhile machine
 
--- there is no room, and no memory came
+-- there is no room beside the block, and no memory came
 pub record RefusesToReallocate (fllen sllen : ℕ) (t : Terms) (s : FlexState) (addr size : ℕ) (notes : List Note) (u : FlexState) : Type 0 where
   pub block : Used
-  pub stuck : IsStuck s.machine addr size block
+  pub holds : Holds s.machine addr block
+  pub no_plan : plan s.machine block size ≡ None
   pub asks : Asks fllen sllen t s size block.align refused notes u
 
 -- A reallocation: in the room that is there; else into memory that came for it. It is refused exactly where there is no room

@@ -1,11 +1,10 @@
 -- What is true of every reachable state of the reference model that asks a source for memory.
-use Rattle.std.specs.Prelude.{◌≡◌, ℕ, ◌+◌, ◌≤◌, ◌<◌, true, List, [], ◌∷◌, Option, Some, None}
+use Rattle.std.specs.Prelude.{◌≡◌, ℕ, ◌+◌, ◌≤◌, ◌<◌, ◌||◌, true, List, [], ◌∷◌, Option, Some, None}
 use Rattle.rlsf_base.specs.declared.memory.range.Range.{Range}
 use Rattle.rlsf_base.specs.Range.{end_of, LiesIn}
 use Rattle.rlsf_model_sizes.specs.Rounding.{round32}
 use Rattle.rlsf_model.specs.ChunkRows.{IsRow}
 use Rattle.rlsf_model.specs.FlexState.{FlexState, KeptPool}
-use Rattle.rlsf_model.specs.Growth.{keeps}
 use Rattle.rlsf_model.specs.Insert.{IsClear}
 use Rattle.rlsf_model.specs.Lists.{IsIn}
 use Rattle.rlsf_model.specs.State.{State, between}
@@ -31,7 +30,7 @@ AreHoused pools chunks = (c : Range) → IsIn c chunks → IsHoused pools c
 pub record IsKeptPool (t : Terms) (k : KeptPool) (pools chunks : List Range) : Type 0 where
   pub rest : List Range
   pub split : pools ≡ k.range ∷ rest
-  pub keeping : keeps t ≡ true
+  pub keeping : (t.dealloc || t.grow) ≡ true
   pub within : k.len ≤ k.range.len
   pub nearly : k.range.len < k.len + 64
   pub last : (c : Range) × IsIn c chunks × (end_of c ≡ k.range.start + k.len)
@@ -52,7 +51,7 @@ ArePools s ranges = (p : Range) → IsIn p ranges → (len : ℕ) × IsPool s p 
 
 -- none is kept where there is none, or where the source can neither grow a range nor take one back
 abbrev pub IsNewest : Terms → Option KeptPool → List Range → List Range → Type 0
-IsNewest t None pools chunks = keeps t ≡ true → pools ≡ []
+IsNewest t None pools chunks = (t.dealloc || t.grow) ≡ true → pools ≡ []
 IsNewest t (Some k) pools chunks = IsKeptPool t k pools chunks
 
 -- The reference model's own state is well-formed. The source's space lies in the memory. The ranges are outstanding there and house

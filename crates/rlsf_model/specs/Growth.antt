@@ -2,6 +2,7 @@
 use Rattle.std.specs.Prelude.{◌≡◌, ℕ, ◌+◌, ◌-◌, ◌^◌, Bool, true, false, ◌||◌, List, [], ◌∷◌, ◌++◌, Option, Some, None, IsSome, nat_lt}
 use Rattle.std.specs.Prelude.{if◌then◌else◌}
 use Rattle.std.specs.Bool.{then_some}
+use Rattle.std.specs.Option.{option_map, option_to_list}
 use Rattle.rlsf_base.specs.declared.memory.range.Range.{Range}
 use Rattle.rlsf_base.specs.Range.{range_at}
 use Rattle.rlsf_model.specs.FlexState.{FlexState, KeptPool}
@@ -15,40 +16,19 @@ pub record Questions : Type 0 where
   pub growth : Option (Range × ℕ)
   pub range : Option ℕ
 
--- nothing is asked
-abbrev pub no_questions : Questions
-no_questions = record { growth = None; range = None }
-
--- the number, if it fits in a word
-abbrev pub if_fits : ℕ → Option ℕ
-if_fits n = if nat_lt n (2 ^ 64) then Some n else None
-
--- the length of a new range in which an aligned part of e bytes is sure to lie
+-- the length of a new range in which an aligned part of e bytes is sure to lie, if it fits in a word
 abbrev pub range_length : Terms → ℕ → Option ℕ
-range_length t e = if nat_lt t.min_align 32 then if_fits (e + 32) else Some e
+range_length t e = if nat_lt t.min_align 32 then then_some (nat_lt (e + 32) (2 ^ 64)) (e + 32) else Some e
 
--- the growth that is asked for, where the source can grow what it provided
-abbrev pub growth_question : Terms → KeptPool → ℕ → Option (Range × ℕ)
-growth_question t k n = if t.grow then Some (k.range, n) else None
-
--- what is asked where a pool is kept that is to be n bytes long. If that isn't a length nothing is asked, not even
--- for a new range (rlsf 0.2.3 does so)
-abbrev pub questions_kept : Terms → KeptPool → ℕ → Option ℕ → Questions
-questions_kept t k e None = no_questions
-questions_kept t k e (Some n) = record {
-  growth = growth_question t k n;
-  range = (if t.contiguous then None else range_length t e);
-}
-
--- what is asked for e bytes more
-abbrev pub questions_for : Terms → Option KeptPool → ℕ → Questions
-questions_for t None e = record { growth = None; range = range_length t e }
-questions_for t (Some k) e = questions_kept t k e (if_fits (k.len + e))
-
--- what is asked for the pool that an allocation wants; nothing where no pool would do
+-- What is asked for the pool that an allocation wants; nothing where no pool would do. Where a pool is kept, it is to be e bytes longer, if the
+-- source can grow what it provided. If that isn't a length, nothing is asked, not even for a new range (rlsf 0.2.3 does so)
 abbrev pub questions : Terms → Option KeptPool → Option ℕ → Questions
-questions t kept None = no_questions
-questions t kept (Some e) = questions_for t kept e
+questions t kept None = record { growth = None; range = None }
+questions t None (Some e) = record { growth = None; range = range_length t e }
+questions t (Some k) (Some e) =
+    if nat_lt (k.len + e) (2 ^ 64)
+    then record { growth = then_some t.grow (k.range, k.len + e); range = if t.contiguous then None else range_length t e }
+    else record { growth = None; range = None }
 
 -- what came of the questions: nothing, a growth to a length, or a range
 pub data Outcome : Type 0 where
@@ -62,44 +42,27 @@ IsPossible q refused = Unit {0}
 IsPossible q (growth_came len) = IsSome q.growth
 IsPossible q (range_came r) = IsSome q.range
 
--- the question for growth with its answer
-abbrev pub growth_note : Option (Range × ℕ) → Option ℕ → List Note
-growth_note None answer = []
-growth_note (Some (r, n)) answer = grow r n answer ∷ []
-
--- the question for a range with its answer
-abbrev pub range_note : Option ℕ → Option Range → List Note
-range_note None answer = []
-range_note (Some n) answer = alloc n answer ∷ []
-
--- the questions with the answers that led to an outcome
+-- the questions with the answers that led to an outcome: the question for growth, if it is asked, and then that for a range, unless growth came
 abbrev pub notes_of : Questions → Outcome → List Note
-notes_of q refused = growth_note q.growth None ++ range_note q.range None
-notes_of q (growth_came len) = growth_note q.growth (Some len)
-notes_of q (range_came r) = growth_note q.growth None ++ range_note q.range (Some r)
-
--- whether a pool is kept
-abbrev pub keeps : Terms → Bool
-keeps t = t.dealloc || t.grow
-
--- the bytes behind the kept pool, up to the end of its range once that is so long
-abbrev pub behind : KeptPool → ℕ → Range
-behind k len = range_at (k.range.start + k.len) (len - k.len)
+notes_of q refused = option_to_list (option_map (λ g. grow g.0 g.1 None) q.growth) ++ option_to_list (option_map (λ n. alloc n None) q.range)
+notes_of q (growth_came len) = option_to_list (option_map (λ g. grow g.0 g.1 (Some len)) q.growth)
+notes_of q (range_came r) = option_to_list (option_map (λ g. grow g.0 g.1 None) q.growth) ++ option_to_list (option_map (λ n. alloc n (Some r)) q.range)
 
 -- the newest range is so long
 abbrev pub longer : ℕ → List Range → List Range
 longer len [] = []
 longer len (p ∷ ps) = with_len p len ∷ ps
 
--- what came becomes part of the state: a range is inserted, and the bytes that a growth gave are appended
+-- What came becomes part of the state. A range is inserted, and is the kept pool if the source takes ranges back or grows them. The bytes that
+-- a growth gave are appended: those behind the kept pool, up to the end of its range, which is so long now
 abbrev pub TakesIn : ℕ → Terms → FlexState → Outcome → FlexState → Type 0
 TakesIn fllen t s refused u = u ≡ s
 TakesIn fllen t s (range_came r) u =
     (len : ℕ) × Inserts fllen s.machine r (Some len) u.machine × (u.pools ≡ r ∷ s.pools)
-    × (u.kept ≡ then_some (keeps t) (record { range = r; len = len }))
+    × (u.kept ≡ then_some (t.dealloc || t.grow) (record { range = r; len = len }))
 TakesIn fllen t s (growth_came len) u =
-    (k : KeptPool) × (taken : ℕ) × (s.kept ≡ Some k) × Appends fllen s.machine (behind k len) taken u.machine × (u.pools ≡ longer len s.pools)
-    × (u.kept ≡ Some (record { range = with_len k.range len; len = k.len + taken }))
+    (k : KeptPool) × (taken : ℕ) × (s.kept ≡ Some k) × Appends fllen s.machine (range_at (k.range.start + k.len) (len - k.len)) taken u.machine
+    × (u.pools ≡ longer len s.pools) × (u.kept ≡ Some (record { range = with_len k.range len; len = k.len + taken }))
 
 -- how the state before, the pool that is wanted and the outcome determine the notes and the state after
 pub record Extends (fllen : ℕ) (t : Terms) (s : FlexState) (wanted : Option ℕ) (outcome : Outcome) (notes : List Note) (u : FlexState) : Type 0 where

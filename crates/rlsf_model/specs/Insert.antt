@@ -1,6 +1,7 @@
 -- Memory is inserted into the reference model: as chunks of their own, or behind a chunk that ends there.
 use Rattle.std.specs.Prelude.{◌≡◌, ℕ, zero, suc, ◌+◌, ◌-◌, ◌*◌, ◌/◌, ◌≤◌, ◌<◌, List, [], ◌∷◌, ◌++◌, Option, Some, None, find, nat_le}
 use Rattle.std.specs.Prelude.{if◌then◌else◌}
+use Rattle.std.specs.Option.{option_map_or}
 use Rattle.rlsf_base.specs.declared.memory.range.Range.{Range}
 use Rattle.rlsf_base.specs.Range.{end_of, LiesIn, range_at}
 use Rattle.rlsf_model_sizes.specs.Rounding.{round32}
@@ -35,14 +36,10 @@ cut (Some most) part =
 abbrev pub body : Range → Range
 body c = range_at c.start (c.len - 32)
 
--- the state with one more chunk, whose free range is the newest
-abbrev pub with_chunk : Range → State → State
-with_chunk c s = record { chunks = c ∷ s.chunks; used = s.used; free = body c ∷ s.free }
-
--- the state with some more chunks, one after another, so that the last one's free range is the newest
+-- the state with some more chunks, one after another, each with a free range that is then the newest; so that of the last one is the newest
 abbrev pub with_chunks : List Range → State → State
 with_chunks [] s = s
-with_chunks (c ∷ cs) s = with_chunks cs (with_chunk c s)
+with_chunks (c ∷ cs) s = with_chunks cs (record { chunks = c ∷ s.chunks; used = s.used; free = body c ∷ s.free })
 
 -- the end of the last one of adjacent chunks, or the given address where there is none
 abbrev pub end_of_last : ℕ → List Range → ℕ
@@ -76,10 +73,6 @@ pub record Inserts (fllen : ℕ) (s : State) (r : Range) (reply : Option ℕ) (t
   pub answer : reply ≡ bytes_taken r.start (cut (max_pool_size fllen) (aligned_part r))
   pub after : t ≡ with_chunks (cut (max_pool_size fllen) (aligned_part r)) s
 
--- the length of adjacent chunks that begin at an address
-abbrev pub total_length : ℕ → List Range → ℕ
-total_length at cs = end_of_last at cs - at
-
 -- the chunk c grows by n bytes: its old last 32 bytes and the new bytes but the last 32 become free
 abbrev pub grown : Range → ℕ → State → State
 grown c n s = record {
@@ -88,15 +81,10 @@ grown c n s = record {
   free = join (range_at (end_of c - 32) n) s.free;
 }
 
--- the chunk that was found, if any, grows by n bytes
-abbrev pub grown_if : Option Range → ℕ → State → State
-grown_if None n s = s
-grown_if (Some c) n s = grown c n s
-
--- the chunk that ends at an address grows by n bytes, and nothing changes where that is 0
+-- the chunk that ends at an address, if any, grows by n bytes, and nothing changes where that is 0
 abbrev pub extended : ℕ → ℕ → State → State
 extended at zero s = s
-extended at (suc n) s = grown_if (find (ends_at at) s.chunks) (suc n) s
+extended at (suc n) s = option_map_or (λ c. grown c (suc n) s) (find (ends_at at) s.chunks) s
 
 -- the range may be appended: it is fresh, and begins where a chunk ends
 pub record IsNext (memory : Range) (s : State) (r : Range) : Type 0 where
@@ -111,9 +99,9 @@ abbrev pub appended : Option ℕ → Range → State → State
 appended (Some most) r s = with_chunks (cut (Some most) (aligned_part r)) s
 appended None r s = extended r.start (r.len / 32 * 32) s
 
--- the number of its bytes that are taken
+-- the number of its bytes that are taken: those up to the end of the last of its chunks, or those by which the chunk grows
 abbrev pub appended_bytes : Option ℕ → Range → ℕ
-appended_bytes (Some most) r = total_length r.start (cut (Some most) (aligned_part r))
+appended_bytes (Some most) r = end_of_last r.start (cut (Some most) (aligned_part r)) - r.start
 appended_bytes None r = r.len / 32 * 32
 
 -- the range is inserted behind a chunk that ends there

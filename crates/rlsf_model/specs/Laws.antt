@@ -8,7 +8,7 @@ use Rattle.rlsf_model_sizes.specs.SizeClass.{class_of, IsAtMost, IsValid, Reache
 use Rattle.rlsf_model_sizes.specs.Sizes.{max_pool_size, pool_size_to_contain_allocation, request_size}
 use Rattle.rlsf_model.specs.Allocate.{choice, has_class, Allocates}
 use Rattle.rlsf_model.specs.Answers.{MayAnswerAll}
-use Rattle.rlsf_model.specs.Callers.{Payload, payload_in, payload_at, Changes, ChangesAll}
+use Rattle.rlsf_model.specs.Callers.{Payload, payload_at, Changes, ChangesAll}
 use Rattle.rlsf_model.specs.End.{notes_at_end, owed_at_end}
 use Rattle.rlsf_model.specs.FlexRun.{AllComeTo, AreSameCalls, FlexEvent, FlexLeads, FlexMayCall, HandsIn, IsFlexRun, IsFlexStep, events_in, notes_in}
 use Rattle.rlsf_model.specs.FlexState.{FlexState, AreFlexSimilar, flex_empty}
@@ -248,7 +248,7 @@ ReallocationKeepsBytes = (fllen sllen : ℕ) (memory : Range) (s t : State) (add
 -- what is at an address is the payload of the used block whose caller has the address
 abbrev pub PayloadIsInBlock : Type 0
 PayloadIsInBlock = (fllen sllen : ℕ) (memory : Range) (s : State) (addr : ℕ) (p : Payload) → IsWellFormed fllen sllen memory s
-    → (payload_at s addr ≡ Some p) ↔ ((u : Used) × Holds s addr u × (payload_in u ≡ p))
+    → (payload_at s addr ≡ Some p) ↔ ((u : Used) × Holds s addr u × (p ≡ record { align = u.align; bytes = u.bytes }))
 
 -- to its callers the reference model is a map from addresses to payloads: each step changes it as the call and its reply say
 abbrev pub CallersSeeMap : Type 0

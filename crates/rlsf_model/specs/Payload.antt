@@ -10,10 +10,6 @@ use Rattle.rlsf_model_sizes.specs.Rounding.{round32}
 abbrev pub payload_of : ℕ → ℕ → ℕ
 payload_of start align = next_multiple_of (start + 16) align
 
--- the length of a block at `start` whose payload at `payload` has `size` bytes
-abbrev pub block_length : ℕ → ℕ → ℕ → ℕ
-block_length start payload size = round32 (payload - start + size)
-
--- the range from `start` that the payload's block takes
+-- the range from `start` that the block of a payload of `size` bytes at `payload` takes: its length is rounded up to a multiple of 32
 abbrev pub block_for : ℕ → ℕ → ℕ → Range
-block_for start payload size = range_at start (block_length start payload size)
+block_for start payload size = range_at start (round32 (payload - start + size))

@@ -1,9 +1,10 @@
 -- A used block gets another size, in place if possible.
 use Rattle.std.specs.Prelude.{◌≡◌, ℕ, ◌-◌, List, ◌∷◌, ◌++◌, length, take, min, Option, Some, None, find, nat_le, nat_lt, if◌then◌else◌}
+use Rattle.std.specs.Option.{option_and_then, option_map_or, option_or}
 use Rattle.rlsf_base.specs.declared.memory.range.Range.{Range}
 use Rattle.rlsf_base.specs.Range.{end_of}
 use Rattle.rlsf_model.specs.Allocate.{Allocates, rest_behind}
-use Rattle.rlsf_model.specs.Join.{join, ends_at, starts_at, end_or}
+use Rattle.rlsf_model.specs.Join.{join, ends_at, starts_at}
 use Rattle.rlsf_model.specs.Lists.{without}
 use Rattle.rlsf_model.specs.Payload.{payload_of, block_for}
 use Rattle.rlsf_model.specs.Release.{Deallocates}
@@ -15,76 +16,53 @@ pub record Plan : Type 0 where
   pub payload : ℕ
   pub free : List Range
 
--- the block that it would be at its own start
-abbrev pub resized : Used → ℕ → Range
-resized u size = block_for u.block.start u.payload size
-
--- a tail that is left over becomes free
-abbrev pub tail_joined : Range → ℕ → List Range → List Range
-tail_joined block end free = if nat_lt (end_of block) end then join (between (end_of block) end) free else free
-
--- in place: the block keeps its front, and a tail that is left is joined to the free ranges
+-- in place: the block keeps its front, and a tail that is left over is joined to the free ranges
 abbrev pub in_place : State → Used → ℕ → Option Plan
 in_place s u size =
-    let block = resized u size in
-    if nat_le (end_of block) (end_of u.block)
-    then Some (record { block = block; payload = u.payload; free = tail_joined block (end_of u.block) s.free })
-    else None
+    let block = block_for u.block.start u.payload size in
+    let free = if nat_lt (end_of block) (end_of u.block) then join (between (end_of block) (end_of u.block)) s.free else s.free in
+    if nat_le (end_of block) (end_of u.block) then Some (record { block = block; payload = u.payload; free = free }) else None
 
--- into the next range: the free range behind the block is taken out, and its rest put in front
+-- into the next range: the block keeps its start, the free range behind it is taken out, and its rest put in front
 abbrev pub into_next : State → Used → ℕ → Option Plan
 into_next s u size =
-    let block = resized u size in
-    let end = end_or (end_of u.block) (find (starts_at (end_of u.block)) s.free) in
+    let block = block_for u.block.start u.payload size in
+    let end = option_map_or end_of (find (starts_at (end_of u.block)) s.free) (end_of u.block) in
     if nat_le (end_of block) end
     then Some (record { block = block; payload = u.payload; free = rest_behind block end ++ without (starts_at (end_of u.block)) s.free })
     else None
 
--- Into the previous range: the free range before the block and one behind it are removed. The block moves to the start of all
--- three, with its payload where an allocation would put it, and the rest is put in front
-abbrev pub into_previous_at : State → Used → ℕ → Option Range → Option Plan
-into_previous_at s u size None = None
-into_previous_at s u size (Some previous) =
+-- Into the previous range, if there is a free range before the block: it and one behind the block are removed. The block moves to the
+-- start of all three, with its payload where an allocation would put it, and the rest is put in front
+abbrev pub into_previous : State → Used → ℕ → Option Plan
+into_previous s u size = option_and_then (λ previous.
     let payload = payload_of previous.start u.align in
     let block = block_for previous.start payload size in
     let rest = without (ends_at u.block.start) s.free in
-    let end = end_or (end_of u.block) (find (starts_at (end_of u.block)) rest) in
+    let end = option_map_or end_of (find (starts_at (end_of u.block)) rest) (end_of u.block) in
     if nat_le (end_of block) end
     then Some (record { block = block; payload = payload; free = rest_behind block end ++ without (starts_at (end_of u.block)) rest })
-    else None
-
--- into the previous range, with the free range before the block, if there is one
-abbrev pub into_previous : State → Used → ℕ → Option Plan
-into_previous s u size = into_previous_at s u size (find (ends_at u.block.start) s.free)
-
--- the first plan, or else the second
-abbrev pub or_else : Option Plan → Option Plan → Option Plan
-or_else None q = q
-or_else (Some p) q = Some p
+    else None) (find (ends_at u.block.start) s.free)
 
 -- the first possible one of the three plans
 abbrev pub plan : State → Used → ℕ → Option Plan
-plan s u size = or_else (in_place s u size) (or_else (into_next s u size) (into_previous s u size))
+plan s u size = option_or (in_place s u size) (option_or (into_next s u size) (into_previous s u size))
 
 -- as many bytes as both lists have are those of the old one; later ones are any
 abbrev pub Keeps : List ℕ → List ℕ → Type 0
 Keeps old new = take (min (length old) (length new)) new ≡ take (min (length old) (length new)) old
 
--- the used block as planned
-abbrev pub moved : Used → Plan → List ℕ → Used
-moved u p bytes = record { block = p.block; payload = p.payload; align = u.align; bytes = bytes }
-
--- the state once the used block u is as planned
-abbrev pub replanned : State → Used → Plan → List ℕ → State
-replanned s u p bytes = record { chunks = s.chunks; used = moved u p bytes ∷ others u.payload s.used; free = p.free }
-
--- the reallocation by a plan
+-- the reallocation by a plan: block, payload and free ranges are then as planned
 pub record Replans (s : State) (u : Used) (p : Plan) (addr : ℕ) (t : State) : Type 0 where
   pub bytes : List ℕ
   pub answer : addr ≡ p.payload
   pub length : length bytes ≡ end_of p.block - p.payload
   pub kept : Keeps u.bytes bytes
-  pub after : t ≡ replanned s u p bytes
+  pub after : t ≡ record {
+    chunks = s.chunks;
+    used = record { block = p.block; payload = p.payload; align = u.align; bytes = bytes } ∷ others u.payload s.used;
+    free = p.free;
+  }
 
 -- elsewhere: an allocation while the old block is live, into which the bytes are copied, and then the old
 -- block is released
@@ -112,7 +90,7 @@ pub record Reallocates (sllen : ℕ) (s : State) (addr size : ℕ) (reply : Opti
 
 -- the payload at the address can have the size in place: in its own block, or with the free range behind it
 abbrev pub HasRoomToStay : State → ℕ → ℕ → Type 0
-HasRoomToStay s addr size = (u : Used) × (p : Plan) × Holds s addr u × (or_else (in_place s u size) (into_next s u size) ≡ Some p)
+HasRoomToStay s addr size = (u : Used) × (p : Plan) × Holds s addr u × (option_or (in_place s u size) (into_next s u size) ≡ Some p)
 
 -- the payload at the address can have the size, here or elsewhere
 abbrev pub HasRoomToResize : ℕ → State → ℕ → ℕ → Type 0

@@ -1,5 +1,5 @@
 -- The state of the reference model.
-use Rattle.std.specs.Prelude.{◌≡◌, ◌↔◌, ℕ, ◌-◌, List, [], ◌++◌, ◌==◌, if◌then◌else◌, not, drop, filter, map, take}
+use Rattle.std.specs.Prelude.{◌≡◌, ◌↔◌, ℕ, ◌-◌, List, [], ◌==◌, if◌then◌else◌, not, filter, map}
 use Rattle.rlsf_base.specs.declared.memory.range.Range.{Range}
 use Rattle.rlsf_base.specs.Range.{end_of, range_at}
 use Rattle.rlsf_model.specs.Lists.{IsIn}
@@ -44,29 +44,17 @@ IsLive s addr align = (u : Used) × Holds s addr u × (u.align ≡ align)
 abbrev pub HasBytes : State → ℕ → List ℕ → Type 0
 HasBytes s addr bytes = (u : Used) × Holds s addr u × (u.bytes ≡ bytes)
 
--- the first len bytes of one list, and behind them those of another from there on
-abbrev pub with_front : ℕ → List ℕ → List ℕ → List ℕ
-with_front len new old = take len new ++ drop len old
-
 -- the used blocks except for the one at an address
 abbrev pub others : ℕ → List Used → List Used
 others addr used = filter (λ u. not (u.payload == addr)) used
 
--- a used block with other bytes
-abbrev pub used_with_bytes : Used → List ℕ → Used
-used_with_bytes u bytes = record { block = u.block; payload = u.payload; align = u.align; bytes = bytes }
-
--- a used block, with these bytes if its caller has the address
-abbrev pub filled_if : ℕ → List ℕ → Used → Used
-filled_if addr bytes u = if u.payload == addr then used_with_bytes u bytes else u
-
--- the used blocks, with these bytes in the one at an address
-abbrev pub filled_at : ℕ → List ℕ → List Used → List Used
-filled_at addr bytes used = map (filled_if addr bytes) used
-
--- the state with these bytes in the used block at an address
+-- the state with these bytes in the used block whose caller has the address, and all others as they are
 abbrev pub filled : State → ℕ → List ℕ → State
-filled s addr bytes = record { chunks = s.chunks; used = filled_at addr bytes s.used; free = s.free }
+filled s addr bytes = record {
+  chunks = s.chunks;
+  used = map (λ (u : Used). if u.payload == addr then record { block = u.block; payload = u.payload; align = u.align; bytes = bytes } else u) s.used;
+  free = s.free;
+}
 
 -- the range, the payload's address and the alignment of a used block
 pub record Shape : Type 0 where

@@ -11,7 +11,7 @@ use Rattle.rlsf_model.proofs.Coverage.{IsIn-append_right}
 use Rattle.rlsf_base.proofs.Numbers.Roundings.{next_multiple_of-le, next_multiple_of-multiple}
 use Rattle.rlsf_model_global.proofs.Apart.{IsClear-grown, IsIn-grown, LieApart, LieApart-above, LieApart-grown, LieApart-less, LieApart-more}
 use Rattle.rlsf_model_global.specs.Pages.{IsPageCursor, MayOwe}
-use Rattle.rlsf_model_global.specs.Cursor.{PageCursor, first_page, with_cursor_at, page_cursor, pages, terms_of}
+use Rattle.rlsf_model_global.specs.Cursor.{PageCursor, first_page, page_cursor, pages, terms_of}
 
 -- complete pages are no fewer bytes, and a multiple of 32 of them
 pub pages-le : (n : ℕ) → n ≤ pages n
@@ -45,14 +45,14 @@ lie_apart c may = record { low = may.start; high = may.end; disjoint = may.disjo
 
 module _ (c : PageCursor) (is : IsPageCursor c) where
   -- the cursor stays one
-  pub IsPageCursor-given : (min_size len : ℕ) → 0 < min_size → len ≡ pages min_size → c.at + len ≤ end_of c.space → IsPageCursor (with_cursor_at c (c.at + len))
+  pub IsPageCursor-given : (min_size len : ℕ) → 0 < min_size → len ≡ pages min_size → c.at + len ≤ end_of c.space → IsPageCursor (page_cursor c.space (c.at + len) c.grows)
   IsPageCursor-given min_size len some whole fits =
       let begins = aligned_below c is (omega (arith, whole, some, pages-le min_size, fits)) in
       record { after_start = omega (arith, is.after_start); before_end = fits; aligned = inr (omega (arith, begins, whole, pages-whole min_size)); addressable = is.addressable }
 
   -- pages are given at the cursor, which moves to their end
   pub given_range : (min_size len : ℕ) → 0 < min_size → len ≡ pages min_size → c.at + len ≤ end_of c.space → (owed : List Range) → MayOwe c owed
-      → IsGiven (terms_of c) owed min_size (range_at c.at len) × MayOwe (with_cursor_at c (c.at + len)) (range_at c.at len ∷ owed)
+      → IsGiven (terms_of c) owed min_size (range_at c.at len) × MayOwe (page_cursor c.space (c.at + len) c.grows) (range_at c.at len ∷ owed)
   given_range min_size len some whole fits owed may =
       let begins = aligned_below c is (omega (arith, whole, some, pages-le min_size, fits)) in
       let more : LieApart c.space.start (c.at + len) (range_at c.at len ∷ owed) = LieApart-more (range_at c.at len) (lie_apart c may) is.after_start (omega arith) in (
@@ -72,7 +72,7 @@ module _ (c : PageCursor) (is : IsPageCursor c) where
 
   -- the cursor stays one
   pub IsPageCursor-grown : (r : Range) (min_new_len len : ℕ) → len ≡ pages min_new_len → r.start + len ≤ end_of c.space → (xs ys : List Range)
-      → MayOwe c (xs ++ r ∷ ys) → IsPageCursor (with_cursor_at c (r.start + len))
+      → MayOwe c (xs ++ r ∷ ys) → IsPageCursor (page_cursor c.space (r.start + len) c.grows)
   IsPageCursor-grown r min_new_len len whole fits xs ys may =
       let here = IsIn-append_right r xs (r ∷ ys) (inl refl) in
       record {
@@ -85,7 +85,7 @@ module _ (c : PageCursor) (is : IsPageCursor c) where
   -- the range that ends at the cursor grows, and the cursor moves to its end
   pub grown_range : (r : Range) (min_new_len len : ℕ) → end_of r ≡ c.at → len ≡ pages min_new_len → r.len ≤ min_new_len → r.start + len ≤ end_of c.space
       → (xs ys : List Range) → MayOwe c (xs ++ r ∷ ys)
-      → IsGrown (terms_of c) (xs ++ ys) r min_new_len len × MayOwe (with_cursor_at c (r.start + len)) (xs ++ with_len r len ∷ ys)
+      → IsGrown (terms_of c) (xs ++ ys) r min_new_len len × MayOwe (page_cursor c.space (r.start + len) c.grows) (xs ++ with_len r len ∷ ys)
   grown_range r min_new_len len last whole longer fits xs ys may =
       let long : min_new_len ≤ len = omega (arith, whole, pages-le min_new_len) in
       let now = LieApart-grown r len xs ys last (omega (arith, longer, long)) (lie_apart c may) in (

@@ -1,5 +1,5 @@
 -- Each step of a heap, and each list of them, leaves a heap and what it doesn't name.
-use Rattle.std.proofs.Common.{◌≡◌, ◌⊎◌, ℕ, Bool, true, false, MatchBool, eqb, min, length, List, [], ◌∷◌, Option, Some, None, Ok, Err, refl, sym}
+use Rattle.std.proofs.Common.{◌≡◌, ◌⊎◌, ℕ, Bool, true, false, MatchBool, eqb, min, length, List, [], ◌∷◌, Option, Some, None, Ok, Err, refl, sym, ◌&&◌, ◌==◌}
 use Rattle.std.proofs.Common.{◌∙◌, ap, subst, inl, inr}
 use Rattle.std.proofs.lemmas.Bool.{and_parts, eqb-true}
 use Rattle.std.specs.Option.{option_map}
@@ -13,13 +13,13 @@ use Rattle.rlsf_model.specs.FlexState.{with_machine}
 use Rattle.rlsf_model.proofs.CallerWords.{bytes_at-map}
 use Rattle.rlsf_model.proofs.NoMove.{unmoved_is_reallocated}
 use Rattle.rlsf_model_global.specs.declared.error.GlobalError.TheVariants.{NoRoom, TableMemory}
-use Rattle.rlsf_model_global.specs.Heap.{Heap, content_at, layout_at, row_layout, with_state}
+use Rattle.rlsf_model_global.specs.Heap.{Heap, content_at, layout_at, with_state}
 use Rattle.rlsf_model_global.specs.History.{IsPlacedAt, LeadsTo, Names, Step, allocate, deallocate, deallocate_as, reallocate, reallocate_as, reallocate_there, read, usable, write}
 use Rattle.rlsf_model_global.specs.Isolation.{HistoriesKeepHeap, IsSameAt, StepsKeepHeap, UnnamedStays, UnnamedStaysThroughout}
-use Rattle.rlsf_model_global.specs.Moves.{HeapMovesAway, ReallocatesAsAt, ReallocatesAt, ReallocatesThereAt, ReallocatesTo, HeapResizesThere, ResizesTo}
+use Rattle.rlsf_model_global.specs.Moves.{HeapMovesAway, ReallocatesAsAt, ReallocatesAt, ReallocatesThereAt, ReallocatesTo, HeapResizesThere}
 use Rattle.rlsf_model_global.specs.Rows.{Row, put, row_at, without_row}
 use Rattle.rlsf_model_global.specs.Standing.{IsHeap}
-use Rattle.rlsf_model_global.specs.Steps.{DeallocatesAsAt, DeallocatesAt, Done, Placed, WritesAt, are_usable, is_same}
+use Rattle.rlsf_model_global.specs.Steps.{DeallocatesAsAt, DeallocatesAt, Done, Placed, WritesAt, are_usable}
 use Rattle.rlsf_model_global.proofs.StepLeavesFlex.{flex_goes}
 use Rattle.rlsf_model_global.proofs.StepLeavesHeap.{Goes, Stays, allocated, released, replaced, resized, row_lives, stays_all, written}
 
@@ -29,7 +29,7 @@ either true x f g = f refl x
 either false x f g = g refl x
 
 -- layouts that are the same have one alignment
-pub is_same-align : (a b : Layout) → is_same a b ≡ true → a.align ≡ b.align
+pub is_same-align : (a b : Layout) → ((a.size == b.size) && (a.align == b.align)) ≡ true → a.align ≡ b.align
 is_same-align a b e = eqb-true a.align b.align (and_parts (eqb a.size b.size) (eqb a.align b.align) e).1
 
 module _ {memory : Range} (h : Heap) (w : IsHeap memory h) (g : Heap) where
@@ -48,7 +48,7 @@ module _ {memory : Range} (h : Heap) (w : IsHeap memory h) (g : Heap) where
   deallocation_as_goes : (addr : ℕ) (layout : Layout) (o : Option Row) (result : Done) → DeallocatesAsAt h addr layout o result g → Goes memory h g (λ a. addr ≡ a)
   deallocation_as_goes addr layout None result step = stays_all h w (λ a. addr ≡ a) g step.1
   deallocation_as_goes addr layout (Some row) result step =
-      either (is_same row.1 layout) step (λ same did. released h w g addr did.1) (λ differs did. stays_all h w (λ a. addr ≡ a) g did.1)
+      either ((row.1.size == layout.size) && (row.1.align == layout.align)) step (λ same did. released h w g addr did.1) (λ differs did. stays_all h w (λ a. addr ≡ a) g did.1)
 
   write_goes : (addr offset : ℕ) (bytes : List ℕ) (o : Option Row) (result : Done) → WritesAt h addr offset bytes o result g → Goes memory h g (λ a. addr ≡ a)
   write_goes addr offset bytes None result step = stays_all h w (λ a. addr ≡ a) g step.1
@@ -63,7 +63,7 @@ module _ {memory : Range} (h : Heap) (w : IsHeap memory h) (g : Heap) where
     moving_goes keep (Err NoRoom) step = stays_all h w (λ a. (addr ≡ a) ⊎ IsPlacedAt (Err NoRoom) a) g step.1
     moving_goes keep (Err e) step = absurd step
 
-    resizing_goes : row.1.align ≡ wanted.align → (result : Placed) → ResizesTo h addr wanted result g → Goes memory h g (λ a. (addr ≡ a) ⊎ IsPlacedAt result a)
+    resizing_goes : row.1.align ≡ wanted.align → (result : Placed) → ReallocatesTo true h addr wanted wanted result g → Goes memory h g (λ a. (addr ≡ a) ⊎ IsPlacedAt result a)
     resizing_goes aligned (Ok to) ((notes, step, led), asked) =
         resized h w addr row there g to wanted asked notes aligned
         (flex_goes h.source g.source w.owed.cursor h.flex w.flex w.owed g.flex notes led (machine_reallocates addr wanted.size (Some (at to))) tt
@@ -88,8 +88,8 @@ module _ {memory : Range} (h : Heap) (w : IsHeap memory h) (g : Heap) where
       → Goes memory h g (λ a. (addr ≡ a) ⊎ IsPlacedAt result a)
   reallocation_as_goes enabled addr layout n None result there step = stays_all h w (λ a. (addr ≡ a) ⊎ IsPlacedAt result a) g step.1
   reallocation_as_goes enabled addr layout n (Some row) result there step =
-      either (is_same row.1 layout) step
-      (λ same did. made enabled did.layout (is_same-align row.1 layout same ∙ sym did.align) did.made)
+      either ((row.1.size == layout.size) && (row.1.align == layout.align)) step
+      (λ same did. made enabled did.0 (is_same-align row.1 layout same ∙ sym did.2) did.3)
       (λ differs did. stays_all h w (λ a. (addr ≡ a) ⊎ IsPlacedAt result a) g did.1)
     where
       made : (b : Bool) (wanted : Layout) → row.1.align ≡ wanted.align → ReallocatesTo b h addr layout wanted result g
@@ -107,8 +107,8 @@ module _ {memory : Range} (h : Heap) (w : IsHeap memory h) (g : Heap) where
       → Goes memory h g (λ a. (addr ≡ a) ⊎ IsPlacedAt result a)
   reallocation_there_goes addr layout n None result there step = stays_all h w (λ a. (addr ≡ a) ⊎ IsPlacedAt result a) g step.1
   reallocation_there_goes addr layout n (Some row) result there step =
-      either (is_same row.1 layout) step
-      (λ same did. unmoved_goes addr row there did.layout (is_same-align row.1 layout same ∙ sym did.align) result did.made)
+      either ((row.1.size == layout.size) && (row.1.align == layout.align)) step
+      (λ same did. unmoved_goes addr row there did.0 (is_same-align row.1 layout same ∙ sym did.2) result did.3)
       (λ differs did. stays_all h w (λ a. (addr ≡ a) ⊎ IsPlacedAt result a) g did.1)
 
   -- ---- each step
@@ -136,7 +136,7 @@ histories_keep_heap memory h g (s ∷ steps) w (m, step, rest) = histories_keep_
 -- what callers see of a payload that stays
 same_at : (a : ℕ) (h g : Heap) → Stays a h g → IsSameAt a h g
 unfolding content_at layout_at
-same_at a h g stays = record { content = bytes_at-map h.flex.machine g.flex.machine a a stays.payload; layout = ap (option_map row_layout) stays.row }
+same_at a h g stays = record { content = bytes_at-map h.flex.machine g.flex.machine a a stays.payload; layout = ap (option_map (λ (r : Row). r.1)) stays.row }
 
 pub same_at-refl : (a : ℕ) (h g : Heap) → g ≡ h → IsSameAt a h g
 same_at-refl a h g same = record { content = ap (λ (x : Heap). content_at x a) same; layout = ap (λ (x : Heap). layout_at x a) same }

@@ -1,5 +1,5 @@
 -- What reallocations leave.
-use Rattle.std.proofs.Common.{◌≡◌, ◌≢◌, ℕ, ◌≤◌, Bool, true, false, cond, eqb, length, min, take, drop, List, [], Option, Some, None, Ok, arith}
+use Rattle.std.proofs.Common.{◌≡◌, ◌≢◌, ℕ, ◌≤◌, Bool, true, false, cond, eqb, length, min, take, drop, List, [], Option, Some, None, Ok, arith, ◌++◌, ◌&&◌, ◌==◌}
 use Rattle.std.proofs.Common.{refl, sym, ◌∙◌, ap, subst, inl}
 use Rattle.std.proofs.lemmas.Bool.{and_parts, eqb-true}
 use Rattle.std.proofs.lemmas.List.{length-take-le, take_at}
@@ -14,15 +14,13 @@ use Rattle.rlsf_model.specs.FlexState.{with_machine}
 use Rattle.rlsf_model.specs.Note.{Note}
 use Rattle.rlsf_model.specs.Reallocate.{Keeps}
 use Rattle.rlsf_model.specs.Run.{reallocate as machine_reallocates}
-use Rattle.rlsf_model.specs.State.{with_front}
 use Rattle.rlsf_model.proofs.CallerWords.{bytes_at-told}
 use Rattle.rlsf_model.proofs.NoMove.{unmoved_is_reallocated}
-use Rattle.rlsf_model_global.specs.Heap.{Agrees, Heap, Lists, content_at, layout_at, row_layout, with_state}
+use Rattle.rlsf_model_global.specs.Heap.{Agrees, Heap, Lists, content_at, layout_at, with_state}
 use Rattle.rlsf_model_global.specs.Left.{IsMoved, IsMovedTo, ReallocationAsLeaves, ReallocationLeaves, ReallocationThereLeaves, in_both}
 use Rattle.rlsf_model_global.specs.Moves.{ReallocatesAsAt, ReallocatesAt, ReallocatesThereAt, ReallocatesTo, Replaces, HeapResizesThere}
 use Rattle.rlsf_model_global.specs.Rows.{Row, put, row_at, without_row}
 use Rattle.rlsf_model_global.specs.Standing.{IsHeap}
-use Rattle.rlsf_model_global.specs.Steps.{is_same}
 use Rattle.rlsf_model_global.specs.declared.error.GlobalError.TheVariants.{WrongLayout}
 use Rattle.rlsf_model_global.proofs.StepLeavesFlex.{FlexGoes, flex_goes}
 use Rattle.rlsf_model_global.proofs.StepLeavesHeap.{replacement, row_lives}
@@ -31,7 +29,7 @@ use Rattle.rlsf_model_global.proofs.AddressesLeft.{no_layout, put_layout, refuse
 use Rattle.rlsf_model_global.proofs.Maps.{row_at-put_other, row_at-without_here}
 
 -- the first bytes of what was filled are those of the old payload
-take-with_front : (n : ℕ) (new old : List ℕ) → n ≤ length new → take n (with_front n new old) ≡ take n new
+take-with_front : (n : ℕ) (new old : List ℕ) → n ≤ length new → take n (take n new ++ drop n old) ≡ take n new
 take-with_front n new old short = take_at (take n new) (drop n old) n (length-take-le n new short)
 
 -- where a payload moved from, no layout is listed
@@ -39,13 +37,15 @@ left_layout : (g : Heap) (addr : ℕ) (to : NonZeroUsize) (wanted : Layout) (row
     → layout_at g addr ≡ None
 unfolding layout_at
 left_layout g addr to wanted rows asked off =
-    ap (option_map row_layout) (ap (row_at addr) asked ∙ row_at-put_other (to, wanted) (without_row addr rows) addr (λ same. off (sym same)) ∙ row_at-without_here addr rows)
+    ap (option_map (λ (r : Row). r.1))
+    (ap (row_at addr) asked ∙ row_at-put_other (to, wanted) (without_row addr rows) addr (λ same. off (sym same)) ∙ row_at-without_here addr rows)
 
 -- the entry's size is usable
 row_size : (h : Heap) (addr : ℕ) (row : Row) → Lists h.asked h.flex.machine → row_at addr h.asked ≡ Some row → row.1.size ≤ length (bytes_at h.flex.machine addr)
 row_size h addr row lists there = (subst (λ o. Agrees o (align_at h.flex.machine addr) (bytes_at h.flex.machine addr)) there (lists addr)).1
 
-is_same-size : (a b : Layout) → is_same a b ≡ true → a.size ≡ b.size
+-- and one size
+pub is_same-size : (a b : Layout) → ((a.size == b.size) && (a.align == b.align)) ≡ true → a.size ≡ b.size
 is_same-size a b e = eqb-true a.size b.size (and_parts (eqb a.size b.size) (eqb a.align b.align) e).0
 
 module _ {memory : Range} (h : Heap) (w : IsHeap memory h) (addr : ℕ) (row : Row) (there : row_at addr h.asked ≡ Some row) (to : NonZeroUsize) (wanted : Layout) where
@@ -72,7 +72,8 @@ module _ {memory : Range} (h : Heap) (w : IsHeap memory h) (addr : ℕ) (row : R
   unfolding content_at
   replaced_moved g asked keep short step =
       let is = replacement h w addr row there g.flex g.source (at to) keep wanted step in
-      let now : bytes_at g.flex.machine (at to) ≡ with_front keep (bytes_at h.flex.machine addr) is.rest = bytes_at-told g.flex.machine (at to) is.now is.here ∙ is.bytes in (
+      let now : bytes_at g.flex.machine (at to) ≡ take keep (bytes_at h.flex.machine addr) ++ drop keep is.rest =
+      bytes_at-told g.flex.machine (at to) is.now is.here ∙ is.bytes in (
         is.apart,
         record {
           layout = put_layout g to wanted (without_row addr h.asked) asked;
@@ -114,8 +115,8 @@ reallocation_there_leaves memory h g addr layout n to w step = go (row_at addr h
         → (at to ≡ addr) × IsMovedTo h g addr (at to) (in_both h g addr (at to)) layout n
     go None there step = refused_not to _ step.0
     go (Some row) there step =
-        either (is_same row.1 layout) step
-        (λ e did. let (same, moved) = there_moved h w addr row there to did.layout g did.made in (same, (did.layout, did.size, did.align, moved)))
+        either ((row.1.size == layout.size) && (row.1.align == layout.align)) step
+        (λ e did. let (same, moved) = there_moved h w addr row there to did.0 g did.3 in (same, (did.0, did.1, did.2, moved)))
         (λ e did. refused_not to WrongLayout did.0)
 
 pub reallocation_as_leaves : ReallocationAsLeaves
@@ -136,6 +137,6 @@ reallocation_as_leaves memory enabled h g addr layout n to w step = go (row_at a
         → IsMovedTo h g addr (at to) (cond enabled (in_both h g addr (at to)) (min layout.size n)) layout n
     go None there step = refused_not to _ step.0
     go (Some row) there step =
-        either (is_same row.1 layout) step
-        (λ e did. (did.layout, did.size, did.align, made enabled row there (is_same-size row.1 layout e) did.layout did.size did.made))
+        either ((row.1.size == layout.size) && (row.1.align == layout.align)) step
+        (λ e did. (did.0, did.1, did.2, made enabled row there (is_same-size row.1 layout e) did.0 did.1 did.3))
         (λ e did. refused_not to WrongLayout did.0)

@@ -1,8 +1,10 @@
 -- The page source answers what a source may answer, and its cursor is behind what is outstanding then.
-use Rattle.std.proofs.Common.{◌≡◌, ℕ, ◌+◌, ◌<◌, ◌≤◌, Bool, true, false, true≢false, cond, List, [], ◌∷◌, ◌++◌, Option, Some, None, arith, lit<}
+use Rattle.std.proofs.Common.{◌≡◌, ℕ, ◌+◌, ◌<◌, ◌≤◌, Bool, true, false, true≢false, List, [], ◌∷◌, ◌++◌, Option, Some, None, arith, lit<, ◌^◌}
 use Rattle.std.proofs.Common.{refl, sym, ◌∙◌, ap, subst, inl, inr}
 use Rattle.std.proofs.lemmas.Option.{none-some, some_pair_parts}
 use Rattle.std.specs.Option.{is_some}
+use Rattle.std.specs.Bool.{then_some}
+use Rattle.std.specs.Prelude.{nat_lt}
 use Rattle.rlsf_base.specs.declared.memory.range.Range.{Range}
 use Rattle.rlsf_base.specs.Range.{end_of, range_at}
 use Rattle.rlsf_model_sizes.specs.SizeClass.{IsValid}
@@ -10,14 +12,15 @@ use Rattle.rlsf_model_sizes.specs.Sizes.{pool_size_to_contain_allocation}
 use Rattle.rlsf_model.specs.Answers.{MayAnswer, MayAnswerAll}
 use Rattle.rlsf_model.specs.FlexState.{FlexState, KeptPool}
 use Rattle.rlsf_model.specs.FlexWellFormed.{IsFlexWellFormed, IsKeptPool, IsNewest}
-use Rattle.rlsf_model.specs.Growth.{Extends, IsPossible, Outcome, range_came, growth_came, growth_note, if_fits, is_more, longer, notes_of, questions, questions_for}
-use Rattle.rlsf_model.specs.Growth.{questions_kept, range_note, refused, TakesIn}
+use Rattle.rlsf_model.specs.Growth.{Extends, IsPossible, Outcome, range_came, growth_came, is_more, longer, notes_of, questions}
+use Rattle.rlsf_model.specs.Growth.{refused, TakesIn}
 use Rattle.rlsf_model.specs.Note.{LeadsBy, Note, alloc, grow}
 use Rattle.rlsf_model.specs.Terms.{Terms, with_len}
 use Rattle.rlsf_model.proofs.GivenAnswers.{more_wanted}
-use Rattle.rlsf_model.proofs.RangeLengths.{if_fits-some, range_asked, range_length-is}
+use Rattle.rlsf_model.proofs.RangeLengths.{range_asked, range_length-is}
 use Rattle.rlsf_model.proofs.TakenPools.{pool_size_is}
-use Rattle.rlsf_model_global.specs.Cursor.{PageCursor, PageLeads, with_cursor_at, pages, terms_of}
+use Rattle.rlsf_model.proofs.Names.{fitting, growth_note, range_note}
+use Rattle.rlsf_model_global.specs.Cursor.{PageCursor, PageLeads, pages, terms_of, page_cursor}
 use Rattle.rlsf_model_global.specs.Pages.{IsPageCursor, MayOwe}
 use Rattle.rlsf_model_global.proofs.Cursors.{IsPageCursor-given, IsPageCursor-grown, given_range, grown_range}
 
@@ -46,16 +49,16 @@ refused_answers t owed o o' n i = elim i [ inl e ↦ subst (MayAnswer t owed) (s
 -- ---- what a growth is asked for
 
 -- the kept range is to grow by what is wanted
-growth_asked : (t : Terms) (k : KeptPool) (e : ℕ) (r : Range) (n : ℕ) → (questions_for t (Some k) e).growth ≡ Some (r, n) → (r ≡ k.range) × (n ≡ k.len + e)
-growth_asked t k e r n asked = go (if_fits (k.len + e)) refl asked
+growth_asked : (t : Terms) (k : KeptPool) (e : ℕ) (r : Range) (n : ℕ) → (questions t (Some k) (Some e)).growth ≡ Some (r, n) → (r ≡ k.range) × (n ≡ k.len + e)
+growth_asked t k e r n asked = go (nat_lt (k.len + e) (2 ^ 64)) asked
   where
-    told : (m : ℕ) → k.len + e ≡ m → (b : Bool) → cond {A = Option (Range × ℕ)} b (Some (k.range, m)) None ≡ Some (r, n) → (r ≡ k.range) × (n ≡ k.len + e)
-    told m is true asked = let parts = some_pair_parts k.range r m n asked in (sym parts.0, sym parts.1 ∙ sym is)
-    told m is false asked = absurd (none-some (r, n) asked)
+    told : (b : Bool) → then_some {T = Range × ℕ} b (k.range, k.len + e) ≡ Some (r, n) → (r ≡ k.range) × (n ≡ k.len + e)
+    told true asked = let parts = some_pair_parts k.range r (k.len + e) n asked in (sym parts.0, sym parts.1)
+    told false asked = absurd (none-some (r, n) asked)
 
-    go : (o : Option ℕ) → if_fits (k.len + e) ≡ o → (questions_kept t k e o).growth ≡ Some (r, n) → (r ≡ k.range) × (n ≡ k.len + e)
-    go None is asked = absurd (none-some (r, n) asked)
-    go (Some m) is asked = told m (sym (if_fits-some (k.len + e) m is)) t.grow asked
+    go : (b : Bool) → (fitting t k e b).growth ≡ Some (r, n) → (r ≡ k.range) × (n ≡ k.len + e)
+    go false asked = absurd (none-some (r, n) asked)
+    go true asked = told t.grow asked
 
 -- ---- the answers
 
@@ -79,7 +82,7 @@ module _ (x y : PageCursor) (is : IsPageCursor x) (owed : List Range) (may : May
   page_answered : (n : ℕ) (r : Range) → 0 < n → LeadsBy PageLeads x (alloc n (Some r) ∷ []) y → IsAnswered x owed (alloc n (Some r) ∷ []) y (r ∷ owed)
   page_answered n r some (z, (fits, at, goes), last) =
       let page = range_at x.at (pages n) in
-      let next = with_cursor_at x (x.at + pages n) in
+      let next = page_cursor x.space (x.at + pages n) x.grows in
       let (told, now) = given_range x is n (pages n) some refl fits owed may in
       record {
         answers = λ m i. elim i [
@@ -111,7 +114,7 @@ module _ (x y : PageCursor) (is : IsPageCursor x) (owed : List Range) (may : May
       let told : MayAnswer (terms_of x) owed (grow r n (Some len)) =
       λ before after parts. (grown_range x is r n len last whole short within before after (subst (MayOwe x) parts may)).0 in
       let first : MayOwe x ([] ++ r ∷ rest) = subst (MayOwe x) split may in
-      let to : y ≡ with_cursor_at x (r.start + len) = end ∙ goes ∙ ap (λ m. with_cursor_at x (r.start + m)) (sym whole) in
+      let to : y ≡ page_cursor x.space (r.start + len) x.grows = end ∙ goes ∙ ap (λ m. page_cursor x.space (r.start + m) x.grows) (sym whole) in
       record {
         answers = λ m i. elim i [ inl e ↦ subst (MayAnswer (terms_of x) owed) (sym e) told | inr none ↦ absurd none ];
         cursor = subst IsPageCursor (sym to) (IsPageCursor-grown x is r n len whole within [] rest first);
@@ -151,7 +154,7 @@ module _ {memory : Range} (x y : PageCursor) (is : IsPageCursor x) (s u : FlexSt
           subst (IsAnswered x s.pools (growth_note g None ++ range_note (Some n) (Some c)) y) (sym pools) (given_answered x y is s.pools may g n c some led)
       go (growth_came len) (Some (c, n)) r is_g is_r possible (k, taken, was, appended, pools, kept) led =
           let (e, is_wanted, long) = pool_of (growth_came len) refl (subst (λ o. is_some o ≡ true) (sym is_g) possible) in
-          let (same, sum) = growth_asked t k e c n (ap (λ o. (questions_for t o e).growth) (sym was) ∙ ap (λ o. (questions t s.kept o).growth) (sym is_wanted) ∙ is_g) in
+          let (same, sum) = growth_asked t k e c n (ap (λ o. (questions t o (Some e)).growth) (sym was) ∙ ap (λ o. (questions t s.kept o).growth) (sym is_wanted) ∙ is_g) in
           let newest : IsKeptPool t k s.pools s.machine.chunks = subst (λ o. IsNewest t o s.pools s.machine.chunks) was w.newest in
           let split : s.pools ≡ c ∷ newest.rest = newest.split ∙ ap (λ (p : Range). p ∷ newest.rest) (sym same) in
           let short : c.len ≤ n = omega (arith, newest.nearly, long, sum, ap (λ (p : Range). p.len) same) in

@@ -1,4 +1,5 @@
 -- From the same placement the same call has the same answer, and leads to the same placement.
+use Rattle.std.specs.Prelude.{◌++◌, ◌&&◌, ◌==◌}
 use mathlib.Core.Path.{ap₂}
 use Rattle.std.proofs.Common.{◌≡◌, ℕ, ◌+◌, Bool, true, false, MatchBool, length, min, nat_le, take, drop, List, Option, Some, None, Ok, Err, Result, refl, sym}
 use Rattle.std.proofs.Common.{◌∙◌, ap, subst}
@@ -11,20 +12,21 @@ use Rattle.rlsf_model.specs.Callers.{bytes_at}
 use Rattle.rlsf_model.specs.FlexState.{AreFlexSimilar, FlexState, with_machine}
 use Rattle.rlsf_model.specs.FlexWellFormed.{IsFlexWellFormed}
 use Rattle.rlsf_model.specs.Run.{IsSomeLive, allocate as machine_allocates, deallocate as machine_deallocates, fill as machine_fills, reallocate as machine_reallocates}
-use Rattle.rlsf_model.specs.State.{with_front}
+use Rattle.rlsf_model.specs.FlexReallocate.{FlexReallocates}
+use Rattle.rlsf_model.specs.Note.{Note, LeadsBy}
 use Rattle.rlsf_model.proofs.Similar.{fill_is_similar, similar_states_agree}
 use Rattle.rlsf_model.proofs.Steps.{steps_keep_well_formed}
 use Rattle.rlsf_model.proofs.TrimmedSimilar.{AreSimilar-sym}
 use Rattle.rlsf_model_global.specs.declared.error.GlobalError.{GlobalError}
 use Rattle.rlsf_model_global.specs.declared.error.GlobalError.TheVariants.{NoRoom, OutOfRange, TableMemory}
-use Rattle.rlsf_model_global.specs.Cursor.{PageCursor, terms_of}
+use Rattle.rlsf_model_global.specs.Cursor.{PageCursor, terms_of, PageLeads}
 use Rattle.rlsf_model_global.specs.Heap.{HaveSamePlacement, Heap}
 use Rattle.rlsf_model_global.specs.History.{allocate, deallocate, deallocate_as, reallocate, reallocate_as, reallocate_there, read, usable, write}
-use Rattle.rlsf_model_global.specs.Moves.{HeapMovesAway, ReallocatesAsAt, ReallocatesAt, ReallocatesThereAt, ReallocatesTo, Replaces, FlexResizes, HeapResizesThere, ResizesTo}
+use Rattle.rlsf_model_global.specs.Moves.{HeapMovesAway, ReallocatesAsAt, ReallocatesAt, ReallocatesThereAt, ReallocatesTo, Replaces, HeapResizesThere}
 use Rattle.rlsf_model_global.specs.Replays.{LacksMemory, PlacementDetermines}
 use Rattle.rlsf_model_global.specs.Rows.{Row, put, row_at, without_row}
 use Rattle.rlsf_model_global.specs.Standing.{IsHeap}
-use Rattle.rlsf_model_global.specs.Steps.{DeallocatesAsAt, DeallocatesAt, Done, HeapAllocates, Placed, ReadsAt, Releases, Takes, UsableAt, WritesAt, WritesIn, are_usable, is_same}
+use Rattle.rlsf_model_global.specs.Steps.{DeallocatesAsAt, DeallocatesAt, Done, HeapAllocates, Placed, ReadsAt, Releases, Takes, UsableAt, WritesAt, WritesIn, are_usable}
 use Rattle.rlsf_model_global.proofs.StepLeavesFlex.{flex_goes}
 use Rattle.rlsf_model_global.proofs.StepLeavesHeap.{row_lives}
 use Rattle.rlsf_model_global.proofs.EqualNumbers.{same_address, same_layout}
@@ -61,8 +63,10 @@ module _ {memory : Range} (h h' : Heap) (w : IsHeap memory h) (w' : IsHeap memor
       let same : m ≡ n = cc in
       (same, d.1, d.2)
 
-  resized : (addr size : ℕ) → IsSomeLive h.flex.machine addr → (m n : Option ℕ) (u u' : FlexState) (y y' : PageCursor) → FlexResizes h addr size m u y
-      → FlexResizes h' addr size n u' y' → (m ≡ n) × AreFlexSimilar u u' × (y ≡ y')
+  resized : (addr size : ℕ) → IsSomeLive h.flex.machine addr → (m n : Option ℕ) (u u' : FlexState) (y y' : PageCursor)
+      → ((notes : List Note) × FlexReallocates 64 64 (terms_of h.source) h.flex addr size m notes u × LeadsBy PageLeads h.source notes y)
+      → ((notes : List Note) × FlexReallocates 64 64 (terms_of h'.source) h'.flex addr size n notes u' × LeadsBy PageLeads h'.source notes y')
+      → (m ≡ n) × AreFlexSimilar u u' × (y ≡ y')
   resized addr size lives m n u u' y y' (notes, step, led) b =
       let (notes', step', led') = rw (← r.source) at b in
       let answers = (flex_goes h.source y w.owed.cursor h.flex w.flex w.owed u notes led (machine_reallocates addr size m) tt lives step).answers in
@@ -83,8 +87,8 @@ module _ {memory : Range} (h h' : Heap) (w : IsHeap memory h) (w' : IsHeap memor
       let (notes', step', led') = q.takes in
       let one = flex_goes h.source y w.owed.cursor h.flex w.flex w.owed p.meanwhile notes led (machine_allocates size align (Some a)) tt power step in
       let one' = flex_goes h'.source y' w'.owed.cursor h'.flex w'.flex w'.owed q.meanwhile notes' led' (machine_allocates size align (Some b)) tt power step' in
-      let bytes = with_front keep (bytes_at p.meanwhile.machine addr) (bytes_at p.meanwhile.machine a) in
-      let bytes' = with_front keep' (bytes_at q.meanwhile.machine addr) (bytes_at q.meanwhile.machine b) in
+      let bytes = (take keep (bytes_at p.meanwhile.machine addr) ++ drop keep (bytes_at p.meanwhile.machine a)) in
+      let bytes' = (take keep' (bytes_at q.meanwhile.machine addr) ++ drop keep' (bytes_at q.meanwhile.machine b)) in
       let two = steps_keep_well_formed 64 64 memory p.meanwhile.machine p.copied (machine_fills a bytes) one.flex.machine (p.copies.block, p.copies.holds) p.copies in
       let two' = steps_keep_well_formed 64 64 memory q.meanwhile.machine q.copied (machine_fills b bytes') one'.flex.machine (q.copies.block, q.copies.holds) q.copies in
       let copied =
@@ -139,7 +143,7 @@ module _ {memory : Range} (h h' : Heap) (w : IsHeap memory h) (w' : IsHeap memor
         → (m ≡ n) × HaveSamePlacement g g'
     deallocates_as addr layout None m n s t = (s.0 ∙ sym t.0, stay s.1 t.1)
     deallocates_as addr layout (Some row) m n s t =
-        both (is_same row.1 layout) s t (λ x y. (x.0 ∙ sym y.0, releases addr x.1 y.1)) (λ x y. (x.0 ∙ sym y.0, stay x.1 y.1))
+        both ((row.1.size == layout.size) && (row.1.align == layout.align)) s t (λ x y. (x.0 ∙ sym y.0, releases addr x.1 y.1)) (λ x y. (x.0 ∙ sym y.0, stay x.1 y.1))
 
     -- ---- a payload that gets another size
 
@@ -156,7 +160,8 @@ module _ {memory : Range} (h h' : Heap) (w : IsHeap memory h) (w' : IsHeap memor
     moves_away addr keep keep' wanted (Err NoRoom) (Err NoRoom) s t = (refl, stay s.1 t.1)
     moves_away addr keep keep' wanted m n s t = search
 
-    resizes_to : (addr : ℕ) (wanted : Layout) → IsSomeLive h.flex.machine addr → (m n : Placed) → ResizesTo h addr wanted m g → ResizesTo h' addr wanted n g'
+    resizes_to : (addr : ℕ) (wanted : Layout) → IsSomeLive h.flex.machine addr → (m n : Placed)
+        → ReallocatesTo true h addr wanted wanted m g → ReallocatesTo true h' addr wanted wanted n g'
         → (m ≡ n) × HaveSamePlacement g g'
     resizes_to addr wanted lives (Ok a) (Ok b) s t =
         let (reply, near, now) = resized addr wanted.size lives (Some (at a)) (Some (at b)) g.flex g'.flex g.source g'.source s.0 t.0 in
@@ -194,11 +199,11 @@ module _ {memory : Range} (h h' : Heap) (w : IsHeap memory h) (w' : IsHeap memor
         → ReallocatesAsAt enabled h' addr layout size o n g' → (m ≡ n) × HaveSamePlacement g g'
     reallocates_as enabled addr layout size None m n there s t = (s.0 ∙ sym t.0, stay s.1 t.1)
     reallocates_as enabled addr layout size (Some row) m n there s t =
-        both (is_same row.1 layout) s t
+        both ((row.1.size == layout.size) && (row.1.align == layout.align)) s t
         (λ x y.
-        let same = same_layout x.layout y.layout (x.size ∙ sym y.size) (x.align ∙ sym y.align) in
-        reallocates_to enabled addr layout x.layout (row_lives h addr row w.lists there) m n x.made
-        (subst (λ (l : Layout). ReallocatesTo enabled h' addr layout l n g') (sym same) y.made))
+        let same = same_layout x.0 y.0 (x.1 ∙ sym y.1) (x.2 ∙ sym y.2) in
+        reallocates_to enabled addr layout x.0 (row_lives h addr row w.lists there) m n x.3
+        (subst (λ (l : Layout). ReallocatesTo enabled h' addr layout l n g') (sym same) y.3))
         (λ x y. (x.0 ∙ sym y.0, stay x.1 y.1))
 
     reallocates : (addr : ℕ) (wanted : Layout) (o : Option Row) (m n : Placed) → ReallocatesAt h addr wanted o m g → ReallocatesAt h' addr wanted o n g'
@@ -212,10 +217,10 @@ module _ {memory : Range} (h h' : Heap) (w : IsHeap memory h) (w' : IsHeap memor
         → (m ≡ n) × HaveSamePlacement g g'
     reallocates_there addr layout size None m n s t = (s.0 ∙ sym t.0, stay s.1 t.1)
     reallocates_there addr layout size (Some row) m n s t =
-        both (is_same row.1 layout) s t
+        both ((row.1.size == layout.size) && (row.1.align == layout.align)) s t
         (λ x y.
-        let same = same_layout x.layout y.layout (x.size ∙ sym y.size) (x.align ∙ sym y.align) in
-        resizes_there addr x.layout m n x.made (subst (λ (l : Layout). HeapResizesThere h' addr l n g') (sym same) y.made))
+        let same = same_layout x.0 y.0 (x.1 ∙ sym y.1) (x.2 ∙ sym y.2) in
+        resizes_there addr x.0 m n x.3 (subst (λ (l : Layout). HeapResizesThere h' addr l n g') (sym same) y.3))
         (λ x y. (x.0 ∙ sym y.0, stay x.1 y.1))
 
     -- ---- a payload that is read or written, or whose length is returned

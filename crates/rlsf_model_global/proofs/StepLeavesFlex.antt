@@ -8,7 +8,7 @@ use Rattle.rlsf_model.specs.FlexState.{FlexState, with_machine}
 use Rattle.rlsf_model.specs.FlexWellFormed.{IsFlexWellFormed}
 use Rattle.rlsf_model.specs.Growth.{refused}
 use Rattle.rlsf_model.specs.Note.{LeadsBy, Note}
-use Rattle.rlsf_model.specs.Run.{Event, insert, append, allocate, deallocate, reallocate, fill, remove, trim}
+use Rattle.rlsf_model.specs.Run.{Event, allocate, deallocate, reallocate, fill, trim}
 use Rattle.rlsf_model.specs.State.{State}
 use Rattle.rlsf_model.specs.Terms.{Terms}
 use Rattle.rlsf_model.proofs.FlexPayloads.{flex_steps_change_map}

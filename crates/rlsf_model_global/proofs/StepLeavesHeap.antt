@@ -1,9 +1,10 @@
 -- What a step of a heap leaves: a heap, and each payload that it doesn't name.
-use Rattle.std.proofs.Common.{◌≡◌, ◌≢◌, ◌⊎◌, ℕ, ◌+◌, ◌<◌, ◌≤◌, length, List, [], Some, None, IsSome, arith, refl, sym, ◌∙◌, ap, subst, inl, inr}
+use Rattle.std.proofs.Common.{◌≡◌, ◌≢◌, ◌⊎◌, ℕ, ◌+◌, ◌<◌, ◌≤◌, length, List, [], Some, None, IsSome, arith, refl, sym, ◌∙◌, ap, subst, inl, inr, ◌++◌}
 use Rattle.std.proofs.lemmas.Bool.{cases_eq}
 use Rattle.std.proofs.lemmas.Option.{none-some, same_Some}
 use Rattle.std.specs.List.{splice}
 use Rattle.std.specs.declared.num.NonZeroUsize.{NonZeroUsize}
+use Rattle.std.specs.Prelude.{take, drop}
 use Rattle.rlsf_base.specs.Addr.{at}
 use Rattle.rlsf_base.specs.declared.memory.layout.Layout.{Layout}
 use Rattle.rlsf_base.specs.declared.memory.range.Range.{Range}
@@ -13,7 +14,7 @@ use Rattle.rlsf_model.specs.FlexState.{FlexState, with_machine}
 use Rattle.rlsf_model.specs.FlexWellFormed.{IsFlexWellFormed}
 use Rattle.rlsf_model.specs.Note.{Note}
 use Rattle.rlsf_model.specs.Run.{IsSomeLive, allocate as machine_allocates, deallocate as machine_deallocates, fill as machine_fills, reallocate as machine_reallocates}
-use Rattle.rlsf_model.specs.State.{State, with_front}
+use Rattle.rlsf_model.specs.State.{State}
 use Rattle.rlsf_model.proofs.CallerWords.{align_at-map, align_at-some, align_at-none, align_at-told, bytes_at-map, bytes_at-told, filled_seen}
 use Rattle.rlsf_model_global.specs.Cursor.{PageCursor, terms_of}
 use Rattle.rlsf_model_global.specs.Heap.{Agrees, Heap, Lists}
@@ -76,7 +77,7 @@ pub record IsReplaced (memory : Range) (h : Heap) (state : FlexState) (source : 
   pub here : payload_at state.machine to ≡ Some now
   pub serves : ServesLayout wanted.size wanted.align now
   pub rest : List ℕ
-  pub bytes : now.bytes ≡ with_front keep (bytes_at h.flex.machine addr) rest
+  pub bytes : now.bytes ≡ (take keep (bytes_at h.flex.machine addr) ++ drop keep rest)
   pub gone : payload_at state.machine addr ≡ None
   pub others : (a : ℕ) → a ≢ addr → a ≢ to → payload_at state.machine a ≡ payload_at h.flex.machine a
 
@@ -88,7 +89,7 @@ replacement {memory} h w addr row there flex source to keep wanted r =
     let copied = with_machine r.meanwhile r.copied in
     let freed = with_machine r.meanwhile r.freed in
     let rest = bytes_at r.meanwhile.machine to in
-    let bytes = with_front keep (bytes_at r.meanwhile.machine addr) rest in
+    let bytes = (take keep (bytes_at r.meanwhile.machine addr) ++ drop keep rest) in
     let one =
     flex_goes h.source source w.owed.cursor h.flex w.flex w.owed r.meanwhile notes led (machine_allocates wanted.size wanted.align (Some to)) tt wanted.valid.aligned step in
     let fills : AsksNothing 64 64 r.meanwhile (machine_fills to bytes) [] copied = record { machine = r.copied; leads = r.copies; none = refl; after = refl } in
@@ -113,7 +114,7 @@ replacement {memory} h w addr row there flex source to keep wanted r =
       here = gone.others to apart ∙ filled.here;
       serves = record { aligned = ap (λ (x : Payload). x.align) same ∙ serves.aligned; enough = omega (arith, serves.enough, len); few = omega (arith, serves.few, len) };
       rest = rest;
-      bytes = ap (λ l. with_front keep l rest) old;
+      bytes = ap (λ l. (take keep l ++ drop keep rest)) old;
       gone = gone.here;
       others = λ a off off_to. gone.others a off ∙ filled.others a off_to ∙ set.others a off_to;
     })

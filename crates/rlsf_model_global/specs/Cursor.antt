@@ -25,10 +25,6 @@ pages n = next_multiple_of n 65536
 abbrev pub first_page : Range → ℕ
 first_page space = min (round32 space.start) (end_of space)
 
--- with the cursor at another address
-abbrev pub with_cursor_at : PageCursor → ℕ → PageCursor
-with_cursor_at c at = record { space = c.space; at = at; grows = c.grows }
-
 -- it takes nothing back, and isn't one range
 abbrev pub terms_of : PageCursor → Terms
 terms_of c = record { space = c.space; dealloc = false; grow = c.grows; contiguous = false; min_align = 32 }
@@ -37,7 +33,10 @@ terms_of c = record { space = c.space; dealloc = false; grow = c.grows; contiguo
 -- way; what doesn't fit is refused, and then nothing changes
 abbrev pub PageLeads : PageCursor → Note → PageCursor → Type 0
 PageLeads x (alloc size None) y = (end_of x.space < x.at + pages size) × (y ≡ x)
-PageLeads x (alloc size (Some r)) y = (x.at + pages size ≤ end_of x.space) × (r ≡ range_at x.at (pages size)) × (y ≡ with_cursor_at x (x.at + pages size))
+PageLeads x (alloc size (Some r)) y =
+    (x.at + pages size ≤ end_of x.space) × (r ≡ range_at x.at (pages size)) × (y ≡ record { space = x.space; at = x.at + pages size; grows = x.grows })
 PageLeads x (grow r len None) y = ((end_of r ≢ x.at) ⊎ (end_of x.space < r.start + pages len)) × (y ≡ x)
-PageLeads x (grow r len (Some given)) y = (end_of r ≡ x.at) × (r.start + pages len ≤ end_of x.space) × (given ≡ pages len) × (y ≡ with_cursor_at x (r.start + pages len))
+PageLeads x (grow r len (Some given)) y =
+    (end_of r ≡ x.at) × (r.start + pages len ≤ end_of x.space) × (given ≡ pages len)
+    × (y ≡ record { space = x.space; at = r.start + pages len; grows = x.grows })
 PageLeads x (dealloc r) y = y ≡ x

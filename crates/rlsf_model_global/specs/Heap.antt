@@ -31,13 +31,9 @@ pub record HaveSamePlacement (h g : Heap) : Type 0 where
   pub source : h.source ≡ g.source
   pub asked : h.asked ≡ g.asked
 
--- the layout of an entry
-abbrev pub row_layout : Row → Layout
-row_layout r = r.1
-
--- the last requested layout of the payload at an address, or none if no payload is there
+-- the last requested layout of the payload at an address, that of its entry, or none if no payload is there
 unfoldable pub layout_at : Heap → ℕ → Option Layout
-layout_at h addr = option_map row_layout (row_at addr h.asked)
+layout_at h addr = option_map (λ r. r.1) (row_at addr h.asked)
 
 -- a payload of a layout with this size and this alignment is at the address
 abbrev pub HasLayout : Heap → ℕ → ℕ → ℕ → Type 0

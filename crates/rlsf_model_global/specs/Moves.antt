@@ -1,5 +1,5 @@
 -- The steps of a heap in which a payload gets another size.
-use Rattle.std.specs.Prelude.{◌≡◌, ℕ, Bool, true, false, List, length, min, Option, Some, None, Ok, Err, MatchBool}
+use Rattle.std.specs.Prelude.{◌≡◌, ℕ, ◌==◌, ◌&&◌, Bool, true, false, List, length, min, Option, Some, None, Ok, Err, MatchBool}
 use Rattle.rlsf_base.specs.declared.memory.layout.Layout.{Layout}
 use Rattle.rlsf_base.specs.Addr.{at}
 use Rattle.rlsf_model.specs.Callers.{bytes_at, copied_over}
@@ -14,7 +14,7 @@ use Rattle.rlsf_model_global.specs.declared.error.GlobalError.TheVariants.{NoRoo
 use Rattle.rlsf_model_global.specs.Cursor.{PageCursor, PageLeads, terms_of}
 use Rattle.rlsf_model_global.specs.Heap.{Heap, with_state}
 use Rattle.rlsf_model_global.specs.Rows.{Row, put, row_at, without_row}
-use Rattle.rlsf_model_global.specs.Steps.{Placed, Takes, is_same}
+use Rattle.rlsf_model_global.specs.Steps.{Placed, Takes}
 
 -- a payload is allocated while an old one is live, gets its first bytes, and the old one is deallocated
 pub record Replaces (h : Heap) (addr keep size align to : ℕ) (flex : FlexState) (source : PageCursor) : Type 0 where
@@ -26,24 +26,12 @@ pub record Replaces (h : Heap) (addr keep size align to : ℕ) (flex : FlexState
   pub frees : Deallocates copied addr freed
   pub after : flex ≡ with_machine meanwhile freed
 
--- the reference model reallocates, and its questions lead the cursor on
-abbrev pub FlexResizes : Heap → ℕ → ℕ → Option ℕ → FlexState → PageCursor → Type 0
-FlexResizes h addr size reply flex source =
-    (notes : List Note) × FlexReallocates 64 64 (terms_of h.source) h.flex addr size reply notes flex × LeadsBy PageLeads h.source notes source
-
 -- the payload moves into another, with an entry for it in the place of the old one's; where there is no room and no memory came, nothing
 -- changes
 abbrev pub HeapMovesAway : Heap → ℕ → ℕ → Layout → Placed → Heap → Type 0
 HeapMovesAway h addr keep wanted (Ok to) g = Replaces h addr keep wanted.size wanted.align (at to) g.flex g.source × (g.asked ≡ put (to, wanted) (without_row addr h.asked))
 HeapMovesAway h addr keep wanted (Err NoRoom) g = Takes h wanted.size wanted.align None h.flex h.source × (g ≡ h)
 HeapMovesAway h addr keep wanted (Err e) g = ⊥
-
--- the payload gets another size by the reference model, with an entry for it in the place of the old one's; where there is no room and no memory
--- came, nothing changes
-abbrev pub ResizesTo : Heap → ℕ → Layout → Placed → Heap → Type 0
-ResizesTo h addr wanted (Ok to) g = FlexResizes h addr wanted.size (Some (at to)) g.flex g.source × (g.asked ≡ put (to, wanted) (without_row addr h.asked))
-ResizesTo h addr wanted (Err NoRoom) g = FlexResizes h addr wanted.size None h.flex h.source × (g ≡ h)
-ResizesTo h addr wanted (Err e) g = ⊥
 
 -- the payload gets another size in place, and its entry another layout; where the bytes there don't suffice, nothing changes
 abbrev pub HeapResizesThere : Heap → ℕ → Layout → Placed → Heap → Type 0
@@ -52,23 +40,24 @@ HeapResizesThere h addr wanted (Ok to) g =
 HeapResizesThere h addr wanted (Err NoRoom) g = ReallocatesWithoutMove h.flex.machine addr wanted.size None h.flex.machine × (g ≡ h)
 HeapResizesThere h addr wanted (Err e) g = ⊥
 
--- a layout has the size and the alignment, and the step is made with it
-pub record Wanted (n a : ℕ) (step : Layout → Type 0) : Type 0 where
-  pub layout : Layout
-  pub size : layout.size ≡ n
-  pub align : layout.align ≡ a
-  pub made : step layout
-
--- the payload of an entry gets another size: by the reference model, or, where that isn't enabled, in a new payload
+-- The payload of an entry gets another size: by the reference model, whose questions lead the cursor on, or, where that isn't enabled, in a new
+-- payload. It has an entry in the place of the old one's; where there is no room and no memory came, nothing changes
 abbrev pub ReallocatesTo : Bool → Heap → ℕ → Layout → Layout → Placed → Heap → Type 0
-ReallocatesTo true h addr old wanted result g = ResizesTo h addr wanted result g
+ReallocatesTo true h addr old wanted (Ok to) g =
+    ((notes : List Note) × FlexReallocates 64 64 (terms_of h.source) h.flex addr wanted.size (Some (at to)) notes g.flex × LeadsBy PageLeads h.source notes g.source)
+    × (g.asked ≡ put (to, wanted) (without_row addr h.asked))
+ReallocatesTo true h addr old wanted (Err NoRoom) g =
+    ((notes : List Note) × FlexReallocates 64 64 (terms_of h.source) h.flex addr wanted.size None notes h.flex × LeadsBy PageLeads h.source notes h.source) × (g ≡ h)
+ReallocatesTo true h addr old wanted (Err e) g = ⊥
 ReallocatesTo false h addr old wanted result g = HeapMovesAway h addr (min old.size wanted.size) wanted result g
 
--- the entry decides: none, or one of another layout, is refused
+-- the entry decides: none, or one of another layout, is refused; else the step is made with a layout of the new size and the old alignment
 abbrev pub ReallocatesAsAt : Bool → Heap → ℕ → Layout → ℕ → Option Row → Placed → Heap → Type 0
 ReallocatesAsAt enabled h addr layout new_size None result g = (result ≡ Err UnknownAddress) × (g ≡ h)
 ReallocatesAsAt enabled h addr layout new_size (Some row) result g =
-    MatchBool (is_same row.1 layout) (Wanted new_size layout.align (λ wanted. ReallocatesTo enabled h addr layout wanted result g)) ((result ≡ Err WrongLayout) × (g ≡ h))
+    MatchBool ((row.1.size == layout.size) && (row.1.align == layout.align))
+    ((wanted : Layout) × (wanted.size ≡ new_size) × (wanted.align ≡ layout.align) × ReallocatesTo enabled h addr layout wanted result g)
+    ((result ≡ Err WrongLayout) × (g ≡ h))
 
 -- another size for a payload of a layout
 abbrev pub HeapReallocatesAs : Bool → Heap → ℕ → Layout → ℕ → Placed → Heap → Type 0
@@ -83,11 +72,13 @@ ReallocatesAt h addr wanted (Some row) result g = HeapMovesAway h addr (min want
 abbrev pub HeapReallocates : Heap → ℕ → Layout → Placed → Heap → Type 0
 HeapReallocates h addr wanted result g = ReallocatesAt h addr wanted (row_at addr h.asked) result g
 
--- the entry decides: none, or one of another layout, is refused
+-- the entry decides: none, or one of another layout, is refused; else the step is made with a layout of the new size and the old alignment
 abbrev pub ReallocatesThereAt : Heap → ℕ → Layout → ℕ → Option Row → Placed → Heap → Type 0
 ReallocatesThereAt h addr layout new_size None result g = (result ≡ Err UnknownAddress) × (g ≡ h)
 ReallocatesThereAt h addr layout new_size (Some row) result g =
-    MatchBool (is_same row.1 layout) (Wanted new_size layout.align (λ wanted. HeapResizesThere h addr wanted result g)) ((result ≡ Err WrongLayout) × (g ≡ h))
+    MatchBool ((row.1.size == layout.size) && (row.1.align == layout.align))
+    ((wanted : Layout) × (wanted.size ≡ new_size) × (wanted.align ≡ layout.align) × HeapResizesThere h addr wanted result g)
+    ((result ≡ Err WrongLayout) × (g ≡ h))
 
 -- another size for a payload of a layout, in place
 abbrev pub HeapReallocatesThere : Heap → ℕ → Layout → ℕ → Placed → Heap → Type 0

@@ -50,14 +50,11 @@ DeallocatesAt h addr (Some row) result g = (result ≡ Ok tt) × Releases h addr
 abbrev pub HeapDeallocates : Heap → ℕ → Done → Heap → Type 0
 HeapDeallocates h addr result g = DeallocatesAt h addr (row_at addr h.asked) result g
 
--- the layouts have the same size and alignment
-abbrev pub is_same : Layout → Layout → Bool
-is_same a b = (a.size == b.size) && (a.align == b.align)
-
--- the entry decides: none, or one of another layout, is refused
+-- the entry decides: none, or one of another layout, which has another size or another alignment, is refused
 abbrev pub DeallocatesAsAt : Heap → ℕ → Layout → Option Row → Done → Heap → Type 0
 DeallocatesAsAt h addr layout None result g = (result ≡ Err UnknownAddress) × (g ≡ h)
-DeallocatesAsAt h addr layout (Some row) result g = MatchBool (is_same row.1 layout) ((result ≡ Ok tt) × Releases h addr g) ((result ≡ Err WrongLayout) × (g ≡ h))
+DeallocatesAsAt h addr layout (Some row) result g =
+    MatchBool ((row.1.size == layout.size) && (row.1.align == layout.align)) ((result ≡ Ok tt) × Releases h addr g) ((result ≡ Err WrongLayout) × (g ≡ h))
 
 -- a deallocation of a layout
 abbrev pub HeapDeallocatesAs : Heap → ℕ → Layout → Done → Heap → Type 0

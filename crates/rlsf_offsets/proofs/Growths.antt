@@ -1,11 +1,12 @@
 -- A space gets more units.
+use Rattle.std.specs.Option.{option_map_or}
 use Rattle.std.proofs.Common.{◌≡◌, ℕ, zero, suc, ◌+◌, ◌-◌, ◌*◌, ◌/◌, ◌^◌, ◌<◌, ◌≤◌, Bool, true, false, cond, List, [], ◌∷◌, length, Option, Some, None, find, nat_le, arith, inl, refl, sym, ◌∙◌, ap, subst}
 use Rattle.std.proofs.lemmas.Bool.{eq-eqb}
 use Rattle.rlsf_base.specs.declared.memory.range.Range.{Range}
 use Rattle.rlsf_base.specs.Range.{end_of, range_at}
 use Rattle.rlsf_model_sizes.specs.Sizes.{max_pool_size}
 use Rattle.rlsf_base.specs.Space.{range_of}
-use Rattle.rlsf_model.specs.Insert.{Appends, IsNext, aligned_part, cut, extended, grown_if}
+use Rattle.rlsf_model.specs.Insert.{Appends, IsNext, aligned_part, cut, extended, grown}
 use Rattle.rlsf_model.specs.Join.{ends_at}
 use Rattle.rlsf_model.specs.Lists.{IsIn, without}
 use Rattle.rlsf_model.specs.State.{State}
@@ -50,7 +51,7 @@ module _ (from to : ℕ) (s t : State) (r : Range) (reply : ℕ) (some : 0 < fro
       let c = whole_shadow from in
       let long : c.len + suc n ≡ 32 * to + 32 = omega (arith, e, longer) in
       let same : range_at c.start (c.len + suc n) ≡ whole_shadow to = λ i. record { start = 2 ^ 62 - 32; len = long i } in
-      ap (λ (o : Option Range). (grown_if o (suc n) s).chunks) found ∙ (λ i. same i ∷ left i)
+      ap (λ (o : Option Range). (option_map_or (λ c. grown c (suc n) s) o s).chunks) found ∙ (λ i. same i ∷ left i)
 
   pub longer_shadow : Appends 59 s r reply t → t.chunks ≡ whole_shadow to ∷ []
   longer_shadow step =

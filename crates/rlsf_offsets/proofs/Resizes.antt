@@ -1,4 +1,5 @@
 -- A range of units gets another length in place.
+use Rattle.std.specs.Option.{option_or, option_map_or}
 use Rattle.std.proofs.Common.{◌≡◌, ◌≢◌, ◌↔◌, ℕ, ◌+◌, ◌-◌, ◌*◌, ◌/◌, ◌^◌, ◌<◌, ◌≤◌, Bool, true, false, List, length, find, Option, Some, None, IsSome, true≢false, arith, inl, inr, refl, sym, ◌∙◌, ap, subst}
 use Rattle.std.proofs.lemmas.Bool.{cases_lt, eq-eqb, eqb-true}
 use Rattle.rlsf_base.specs.declared.memory.range.Range.{Range}
@@ -7,16 +8,17 @@ use Rattle.rlsf_base.specs.Space.{range_of}
 use Rattle.rlsf_blocks.proofs.Reallocate.NextPlans.{in_place-fits, kept_whole, no_plan, or_else-stretched, stretched}
 use Rattle.rlsf_blocks.proofs.Reallocate.Spans.{reach}
 use Rattle.rlsf_model.specs.Callers.{align_at, bytes_at}
-use Rattle.rlsf_model.specs.Join.{end_or, starts_at}
+use Rattle.rlsf_model.specs.Join.{starts_at}
 use Rattle.rlsf_model.specs.Lists.{IsIn}
 use Rattle.rlsf_model.specs.NoMove.{ReallocatesUnmovedBy, unmoved_plan}
-use Rattle.rlsf_model.specs.Reallocate.{Plan, into_next, or_else, resized}
+use Rattle.rlsf_model.specs.Reallocate.{Plan, into_next}
 use Rattle.rlsf_model.specs.Sized.{IsSizedFor}
 use Rattle.rlsf_model.specs.State.{Holds, State, Used}
 use Rattle.rlsf_model.specs.WellFormed.{IsWellFormed, itself}
 use Rattle.rlsf_model.proofs.CallerWords.{align_at-held, align_at-live, align_at-some, bytes_at-held}
 use Rattle.rlsf_model.proofs.Coverage.{coverage-unique, covers-inside, find-none, find-some}
 use Rattle.rlsf_model.proofs.Tiling.{IsPart-free, free-le, lies_in_chunk, tiling_of}
+use Rattle.rlsf_model.proofs.Names.{resized}
 use Rattle.rlsf_tlsf.specs.Allocator.{Allocator}
 use Rattle.rlsf_tlsf.specs.CoreResizes.{KeepsBoundsThere, KeepsPayloadsResizing, stayed_if}
 use Rattle.rlsf_tlsf.specs.Results as results
@@ -97,14 +99,14 @@ module _ {units : ℕ} {a : Allocator} (is : IsShadow units a) (first n size : �
   decided : Decided
   decided = elim (cases_lt (end_of u.block) (end_of (resized u size))) [
     | inr fits ↦
-        stays (kept_whole a.state u size) (ap (λ o. or_else o (into_next a.state u size)) (in_place-fits a.state u size fits))
+        stays (kept_whole a.state u size) (ap (λ o. option_or o (into_next a.state u size)) (in_place-fits a.state u size fits))
         (record { now = now; live = is_now; room = inl (omega (arith, ends, ends_then, fits)) })
     | inl longer ↦ behind longer (find (starts_at (end_of u.block)) a.state.free) refl
   ]
     where
       behind : end_of u.block < end_of (resized u size) → (o : Option Range) → find (starts_at (end_of u.block)) a.state.free ≡ o → Decided
       behind longer None e =
-          let far : reach a.state u ≡ end_of u.block = ap (end_or (end_of u.block)) e in
+          let far : reach a.state u ≡ end_of u.block = ap (λ (o : Option Range). option_map_or end_of o (end_of u.block)) e in
           leaves (no_plan a.state u size longer (omega (arith, far, longer)))
           (no_room longer (λ m i.
           let g = range_at (end_of u.block) (32 * m) in
@@ -112,7 +114,7 @@ module _ {units : ℕ} {a : Allocator} (is : IsShadow units a) (first n size : �
       behind longer (Some f) e =
           let at = find-some (starts_at (end_of u.block)) f a.state.free e in
           let start : f.start ≡ end_of u.block = eqb-true f.start (end_of u.block) at.1 in
-          let far : reach a.state u ≡ end_of f = ap (end_or (end_of u.block)) e in
+          let far : reach a.state u ≡ end_of f = ap (λ (o : Option Range). option_map_or end_of o (end_of u.block)) e in
           elim (cases_lt (end_of f) (end_of (resized u size))) [
             | inl short ↦
                 leaves (no_plan a.state u size longer (omega (arith, far, short)))

@@ -32,7 +32,7 @@ Stands-stepped after step steps = steps.1
 
 well_formed : (v : HeapView) → Stands 59 8 v → IsWellFormed 59 8 (range_of v.memory) v.state
 unfolding Stands
-well_formed v stands = stands.well_formed
+well_formed v stands = stands
 
 sixteen : IsPowerOfTwo 16
 sixteen = refl

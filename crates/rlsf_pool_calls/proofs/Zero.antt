@@ -11,4 +11,4 @@ none_at_zero fllen sllen v stands = go (align_at v.state 0) refl
   where
     go : (o : Option ℕ) → align_at v.state 0 ≡ o → o ≡ None
     go None e = refl
-    go (Some align) e = let (u, held, _) = align_at-live v.state 0 align e in absurd (omega (arith, IsUsed-after_start u (stands.stands.well_formed.used u held.0), held.1))
+    go (Some align) e = let (u, held, _) = align_at-live v.state 0 align e in absurd (omega (arith, IsUsed-after_start u (stands.well_formed.used u held.0), held.1))

@@ -34,7 +34,7 @@ module _ (fllen sllen : ℕ) where
     steps = (addr ∷ [], refl, (before, refl, step));
     identity = frame.heap.identity;
     chunks = frame.chunks;
-    settled = frame.bytes.settled;
+    settled = frame.settled;
     bounds = bounds;
     live = did.gone.count;
     touches = omega (arith, touches);

@@ -11,12 +11,12 @@ pub reallocation_of : (old new : HeapView) (p : PayloadView) (size : ℕ) (reply
 reallocation_of old new p size (Ok q) is none = record {
   payload = is.resized.identity;
   align = is.resized.requested;
-  aligned = is.resized.made.aligned;
-  sized = is.resized.made.sized;
-  few = is.resized.made.few;
-  kept = is.resized.made.kept;
-  here = is.resized.here.here;
-  shrunk = is.resized.here.shrunk;
+  aligned = is.resized.aligned;
+  sized = is.resized.sized;
+  few = is.resized.few;
+  kept = is.resized.kept;
+  here = is.resized.here;
+  shrunk = is.resized.shrunk;
   back = tt;
 }
 reallocation_of old new p size (Err q) none is = record {
@@ -28,5 +28,5 @@ reallocation_of old new p size (Err q) none is = record {
   kept = tt;
   here = tt;
   shrunk = tt;
-  back = (is.returned.start, is.returned.bytes, is.returned.written);
+  back = (is.start, is.bytes, is.written);
 }

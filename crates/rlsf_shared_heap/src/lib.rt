@@ -13,7 +13,7 @@
 //! - `as_mut_slice` of a `SharedPayload`: `SharedLends`
 //! - `allocate`, `allocate_lent` of an `OwnerHeap`: `Owners`; tlsf `Bounds`
 //! - `deallocate`, `take_back` of an `OwnerHeap`: heap `Replies`, `Frame`; model `Release`
-//! - `reallocate` of an `OwnerHeap`: `Owners`; heap `Replies`, `Frame`, `Reallocation`; model `Reallocate`
+//! - `reallocate` of an `OwnerHeap`: `Owners`; heap `Replies`, `Frame`; model `Reallocate`
 //! - `collect` of an `OwnerHeap`: `Owners`
 #![tactic(auto)]
 

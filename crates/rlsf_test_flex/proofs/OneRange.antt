@@ -12,7 +12,7 @@ use Rattle.rlsf_base.proofs.Numbers.Roundings.{round32-same}
 use Rattle.rlsf_base.proofs.SizeClasses.Reach.{Reaches-from_slack}
 use Rattle.rlsf_model.specs.Allocate.{choice, placed, Places}
 use Rattle.rlsf_model.specs.Budget.{total_len, used_bytes}
-use Rattle.rlsf_model.specs.Insert.{adjacent, aligned_part, cut, remainder, with_chunk, with_chunks, Inserts}
+use Rattle.rlsf_model.specs.Insert.{adjacent, aligned_part, cut, remainder, with_chunks, Inserts}
 use Rattle.rlsf_model.specs.Lists.{IsIn}
 use Rattle.rlsf_model.specs.Payload.{payload_of}
 use Rattle.rlsf_model.specs.State.{State, Used, empty}
@@ -21,6 +21,7 @@ use Rattle.rlsf_model.proofs.Choices.{choice-none, choice-from_none}
 use Rattle.rlsf_model.proofs.Chunks.{chunks-allocated, used-inserted}
 use Rattle.rlsf_model.proofs.Payloads.{payload_of-after, payload_of-le}
 use Rattle.rlsf_model.proofs.Sums.{bytes_add_up}
+use Rattle.rlsf_model.proofs.Names.{with_chunk}
 
 -- ---- the chunks of a range
 

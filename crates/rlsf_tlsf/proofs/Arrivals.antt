@@ -5,18 +5,20 @@ use Rattle.rlsf_base.specs.Space.{Space, range_of}
 use Rattle.rlsf_model.specs.Lists.{IsIn}
 use Rattle.rlsf_model.specs.Callers.{align_at, bytes_at}
 use Rattle.rlsf_model.specs.Run.{Fills, IsSomeLive}
-use Rattle.rlsf_model.specs.State.{State, Used, filled_at, usable, used_with_bytes, Holds, IsLive}
+use Rattle.rlsf_model.specs.State.{State, Used, usable, Holds, IsLive}
 use Rattle.rlsf_model.proofs.CallerWords.{align_at-live, align_at-some, bytes_at-held}
 use Rattle.rlsf_model.specs.WellFormed.{IsWellFormed}
 use Rattle.rlsf_model.proofs.Coverage.{by_test}
+use Rattle.rlsf_model.proofs.Names.{used_with_bytes, filled_at}
 use Rattle.rlsf_table.specs.Table.{Table}
 use Rattle.rlsf_blocks.specs.Laws.{read_from, with_bytes_of}
 use Rattle.rlsf_blocks.specs.Spare.{KeepsSpare}
 use Rattle.rlsf_blocks.specs.StandsFor.{contents, StandsFor}
 use Rattle.rlsf_blocks.specs.Steps.LiveBlock.{IsLiveIn}
-use Rattle.rlsf_tlsf.specs.Allocator.{Allocator, allocator, IsAllocator, IsStanding, Stands, Steps}
+use Rattle.rlsf_tlsf.specs.Allocator.{Allocator, allocator, IsAllocator, IsRepresented, IsStanding, Stands, Steps}
 use Rattle.rlsf_tlsf.specs.Steps.Moves.{bare, bare_used}
 use Rattle.rlsf_tlsf.proofs.Moved.{bare-bare, map-map}
+use Rattle.rlsf_tlsf.proofs.Standing.{represented}
 
 -- a represented state has the bytes that the memory has
 pub read_from-stands : {fllen sllen : ℕ} {m : Space} {x : Table} {s : State} → StandsFor fllen sllen (contents m x) s → read_from m s ≡ s
@@ -50,7 +52,7 @@ module _ {fllen sllen : ℕ} {n : Space} {x : Table} {t : State} (v : StandsFor 
 
     pub Stands-arrived : Stands fllen sllen (allocator n x reached)
     unfolding Stands
-    Stands-arrived = record { stands = stands; whole = whole }
+    Stands-arrived = represented stands whole
 
     -- a step to it is the step that the call says
     pub Steps-arrived : (old : Allocator) (m : Space) (y : Table) (s : State) → allocator m y s ≡ old → (step : State → State → Type 0) → step (read_from m s) t
@@ -61,15 +63,21 @@ module _ {fllen sllen : ℕ} {n : Space} {x : Table} {t : State} (v : StandsFor 
         subst (λ (o : Allocator). step o.state (read_from n reached) × Stands fllen sllen (allocator n x reached) × KeepsSpare o.memory o.state n (read_from n reached)) view
         (subst (step (read_from m s)) (sym arrived) is, Stands-arrived, subst (KeepsSpare m (read_from m s) n) (sym arrived) spare)
 
--- a represented state is well-formed
+-- an allocator's state is well-formed
 pub well_formed : {fllen sllen : ℕ} (v : Allocator) → Stands fllen sllen v → IsWellFormed fllen sllen (range_of v.memory) v.state
 unfolding Stands
-well_formed v is = is.stands.well_formed
+well_formed v is = is.well_formed
 
 pub Stands-view : {fllen sllen : ℕ} (m : Space) (x : Table) (s : State) (v : Allocator) → allocator m x s ≡ v → StandsFor fllen sllen (contents m x) (read_from m s)
     → m.out ≡ [] → Stands fllen sllen v
 unfolding Stands
-Stands-view {fllen} {sllen} m x s v view is whole = subst (λ (o : Allocator). IsStanding fllen sllen o.memory o.table o.state) view (record { stands = is; whole = whole })
+Stands-view {fllen} {sllen} m x s v view is whole = subst (λ (o : Allocator). IsStanding fllen sllen o.memory o.state) view (represented is whole)
+
+-- and its fields represent it
+pub IsRepresented-view : {fllen sllen : ℕ} (m : Space) (x : Table) (s : State) (v : Allocator) → allocator m x s ≡ v
+    → StandsFor fllen sllen (contents m x) (read_from m s) → IsRepresented fllen sllen v
+unfolding IsRepresented
+IsRepresented-view {fllen} {sllen} m x s v view is = subst (λ (o : Allocator). StandsFor fllen sllen (contents o.memory o.table) o.state) view is
 
 -- what a step says
 pub opened : (fllen sllen : ℕ) (before after : Allocator) (step : State → Type 0) → Steps fllen sllen before after step

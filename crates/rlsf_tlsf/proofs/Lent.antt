@@ -21,6 +21,7 @@ use Rattle.rlsf_tlsf.specs.Allocator.{Allocator, allocator, IsAllocator, IsStand
 use Rattle.rlsf_tlsf.specs.Lending.{LeavesRest, touched, written}
 use Rattle.rlsf_tlsf.proofs.Arrivals.{IsAllocator-arrived, bare-reread, read_from-read_from}
 use Rattle.rlsf_tlsf.proofs.LiveBytes.{bytes_filled}
+use Rattle.rlsf_tlsf.proofs.Standing.{represented}
 
 -- nothing but a range changes that was lent once more touches were counted, whatever was left there
 pub IsSameOutside-lent : (m : Space) (more : ℕ) (r : Range) (w : List ℕ) → LiesIn r m.start (length m.bytes)
@@ -92,7 +93,7 @@ module _ {fl_bits sl_bits fllen sllen : ℕ} {m : Space} {x : Table} {kept : Sta
   unfolding Stands Steps
   left w =
       let (fills, stands, spare) = filling w in
-      let standing : IsStanding fllen sllen (left_in w) x (read_from (left_in w) s) = record { stands = stands; whole = is.whole } in
+      let standing : IsStanding fllen sllen (left_in w) (read_from (left_in w) s) = represented stands is.whole in
       let seen = filled_seen is.stands.well_formed (read_from (left_in w) s) addr (bytes_in (left_in w) (usable u)) fills in
       let read : length w ≡ (usable u).len → bytes_in (left_in w) (usable u) ≡ w = λ long. bytes_in-lent (touched m 3) (usable u) w lies long in
       record {
@@ -105,7 +106,7 @@ module _ {fl_bits sl_bits fllen sllen : ℕ} {m : Space} {x : Table} {kept : Sta
         bounds =
             λ count size align sized. sized_filled is.stands.well_formed (read_from (left_in w) s) count size align sized addr (bytes_in (left_in w) (usable u)) (u, holds) fills;
         lengths = seen.lengths addr;
-        rest = (refl, (refl, length-lent_space (touched m 3) (usable u) w lies, refl, λ none. none), standing, refl, refl);
+        rest = (refl, (refl, length-lent_space (touched m 3) (usable u) w lies, refl, λ none. none), standing, refl, refl, spare);
       }
 
   pub is_left : (len : ℕ) → len ≡ (usable u).len → (w : List ℕ) → IsLeft fllen sllen (allocator m x kept) addr len w (written (allocator m x kept) addr len w)

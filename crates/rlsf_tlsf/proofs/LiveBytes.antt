@@ -12,11 +12,11 @@ use Rattle.rlsf_model.specs.Budget.{used_bytes}
 use Rattle.rlsf_model.specs.Callers.{align_at, bytes_at}
 use Rattle.rlsf_model.specs.Lists.{IsIn}
 use Rattle.rlsf_model.specs.NoMove.{unmoved_plan}
-use Rattle.rlsf_model.specs.Reallocate.{Plan, Reallocates, ReallocatesBy, Replans, moved, plan}
+use Rattle.rlsf_model.specs.Reallocate.{Plan, Reallocates, ReallocatesBy, Replans, plan}
 use Rattle.rlsf_model.specs.Release.{Deallocates, released}
 use Rattle.rlsf_model.specs.Run.{Fills}
 use Rattle.rlsf_model.specs.Sized.{block_bytes, live_bytes}
-use Rattle.rlsf_model.specs.State.{State, Used, Holds, filled_at, others, used_with_bytes}
+use Rattle.rlsf_model.specs.State.{State, Used, Holds, others}
 use Rattle.rlsf_model.specs.WellFormed.{IsWellFormed}
 use Rattle.rlsf_model.proofs.Allocations.{Allocates-keeps}
 use Rattle.rlsf_model.proofs.BudgetWords.{bytes_gone, bytes_new, never_refused_in_budget}
@@ -25,6 +25,7 @@ use Rattle.rlsf_model.proofs.Coverage.{by_test}
 use Rattle.rlsf_model.proofs.Payloads.{IsUsed-after_start, payload_of-le}
 use Rattle.rlsf_model.proofs.Plans.{IsSound-plan}
 use Rattle.rlsf_model.proofs.SizedWords.{aligned}
+use Rattle.rlsf_model.proofs.Names.{moved, used_with_bytes, filled_at}
 use Rattle.rlsf_tlsf.specs.Bounds.{IfWithinBudget}
 use Rattle.rlsf_tlsf.specs.UnknownAlign.{ReallocatesAnyAlign, ResizesBy}
 

@@ -1,10 +1,11 @@
 -- A call's step leads, except for the bytes of payloads, where the function for the call leads.
+use Rattle.std.specs.Option.{option_map_or}
 use Rattle.std.proofs.Common.{◌≡◌, ℕ, zero, suc, eqb, not, cond, map, find, List, [], ◌∷◌, Option, Some, None, true≢false, refl, sym, ◌∙◌, ap, subst, inr}
 use Rattle.std.proofs.lemmas.Bool.{eq-eqb, eqb-true}
 use Rattle.rlsf_base.specs.declared.memory.range.Range.{Range}
 use Rattle.rlsf_model_sizes.specs.Sizes.{max_pool_size}
 use Rattle.rlsf_model.specs.Allocate.{Places}
-use Rattle.rlsf_model.specs.Insert.{Appends, Inserts, aligned_part, appended, cut, extended, grown_if, with_chunk, with_chunks}
+use Rattle.rlsf_model.specs.Insert.{Appends, Inserts, aligned_part, appended, cut, extended, with_chunks, grown}
 use Rattle.rlsf_model.specs.Join.{ends_at}
 use Rattle.rlsf_model.specs.Lists.{IsIn}
 use Rattle.rlsf_model.specs.Reallocate.{Plan, Reallocates, ReallocatesBy, plan}
@@ -14,6 +15,7 @@ use Rattle.rlsf_model.specs.WellFormed.{IsWellFormed}
 use Rattle.rlsf_model.proofs.Allocations.{Allocates-keeps}
 use Rattle.rlsf_model.proofs.Changes.{Holds-unique}
 use Rattle.rlsf_model.proofs.Coverage.{by_test, find-some, find-none}
+use Rattle.rlsf_model.proofs.Names.{with_chunk}
 use Rattle.rlsf_tlsf.specs.Steps.Moves.{allocated, appended_to, bare, bare_used, deallocated, given_if, inserted, moved_by, moved_if, reallocated, released_if, used_at}
 
 -- ---- a state without bytes
@@ -69,7 +71,7 @@ bare-with_chunks : (cs : List Range) (s : State) → with_chunks cs (bare s) ≡
 bare-with_chunks [] s = refl
 bare-with_chunks (c ∷ cs) s = bare-with_chunks cs (with_chunk c s)
 
-bare-grown_if : (o : Option Range) (n : ℕ) (s : State) → grown_if o n (bare s) ≡ bare (grown_if o n s)
+bare-grown_if : (o : Option Range) (n : ℕ) (s : State) → option_map_or (λ c. grown c n (bare s)) o (bare s) ≡ bare (option_map_or (λ c. grown c n s) o s)
 bare-grown_if None n s = refl
 bare-grown_if (Some c) n s = refl
 

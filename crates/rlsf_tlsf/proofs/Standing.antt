@@ -1,16 +1,23 @@
 -- The state that an allocator is in, by a name of its own.
-use Rattle.std.proofs.Common.{◌≡◌, ℕ, Some, IsSome, refl, sym, subst}
+use Rattle.std.proofs.Common.{◌≡◌, ℕ, [], Some, IsSome, refl, sym, subst}
+use Rattle.rlsf_base.specs.Space.{Space}
 use Rattle.rlsf_model.specs.Callers.{align_at, bytes_at}
 use Rattle.rlsf_model.specs.Run.{IsSomeLive}
 use Rattle.rlsf_model.specs.State.{State, Used, Holds, IsLive}
 use Rattle.rlsf_model.proofs.CallerWords.{align_at-held, bytes_at-held}
+use Rattle.rlsf_table.specs.Table.{Table}
 use Rattle.rlsf_blocks.specs.Spare.{KeepsSpare}
-use Rattle.rlsf_tlsf.specs.Allocator.{Allocator, IsInState, Stands, Steps}
+use Rattle.rlsf_blocks.specs.StandsFor.{contents, StandsFor}
+use Rattle.rlsf_tlsf.specs.Allocator.{Allocator, IsInState, IsStanding, Stands, Steps}
 
--- an allocator that represents its state is in its state
+-- a represented state is well-formed in the memory
+pub represented : {fllen sllen : ℕ} {m : Space} {x : Table} {s : State} → StandsFor fllen sllen (contents m x) s → m.out ≡ [] → IsStanding fllen sllen m s
+represented v whole = record { nonzero = v.nonzero; well_formed = v.well_formed; payloads = v.payloads.bytes; whole = whole }
+
+-- an allocator is in its state
 pub in_state : (fllen sllen : ℕ) (v : Allocator) → Stands fllen sllen v → IsInState fllen sllen v v.state
 unfolding Stands
-in_state fllen sllen v is = record { state = refl; stands = is.stands; whole = is.whole }
+in_state fllen sllen v is = record { state = refl; stands = is }
 
 module _ {fllen sllen : ℕ} {v : Allocator} {s : State} (is : IsInState fllen sllen v s) where
   -- what a call says of the allocator's state is true of that state
@@ -28,7 +35,7 @@ module _ {fllen sllen : ℕ} {v : Allocator} {s : State} (is : IsInState fllen s
   stepped after step (did, stands, spare) = (
     after.state,
     subst (λ x. step x after.state) is.state did,
-    record { state = refl; stands = stands.stands; whole = stands.whole },
+    record { state = refl; stands = stands },
     subst (λ x. KeepsSpare v.memory x after.memory after.state) is.state spare,
   )
 

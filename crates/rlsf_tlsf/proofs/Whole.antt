@@ -11,6 +11,7 @@ use Rattle.rlsf_tlsf.specs.Cores.{IsCore, LeavesCore, LeavesCoreCopying}
 use Rattle.rlsf_tlsf.specs.Results.{KeepsFrame}
 use Rattle.rlsf_tlsf.specs.declared.tlsf.Tlsf.TheInside.{Inside}
 use Rattle.rlsf_tlsf.proofs.Opened.{IsAllocator-opened}
+use Rattle.rlsf_tlsf.proofs.Standing.{represented}
 
 module _ {fl_bits sl_bits fllen sllen : ℕ} {m : Space} {x : Table} {j : State} (is : IsAllocator fl_bits sl_bits fllen sllen m x j) where
   pub core_of : fl_bits ≤ 128 → IsCore fllen sllen m x j
@@ -25,7 +26,7 @@ module _ {fl_bits sl_bits fllen sllen : ℕ} {m : Space} {x : Table} {j : State}
 
     pub Steps-left : (step : State → Type 0) → step (read_from n k) → Steps fllen sllen (allocator m x j) (allocator n y k) step
     unfolding Steps Stands
-    Steps-left step did = (did, record { stands = left.core.stands; whole = none_left }, left.spare)
+    Steps-left step did = (did, represented left.core.stands none_left, left.spare)
 
   pub frame-left : {n : Space} {y : Table} {k : State} {most : ℕ} (left : LeavesCore fllen sllen m n y j k most)
       → (read_from n k).chunks ≡ (read_from m j).chunks → KeepsFrame (allocator m x j) (allocator n y k)

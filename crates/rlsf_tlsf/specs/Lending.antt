@@ -3,6 +3,7 @@ use Rattle.std.specs.Prelude.{◌≡◌, ℕ, ◌+◌, List, length}
 use Rattle.std.specs.Borrow.{Fml, RattleType, MutBor, Array, Lends, u8}
 use Rattle.rlsf_base.specs.Lends.{lent_space}
 use Rattle.rlsf_base.specs.Space.{Space, SamePlace}
+use Rattle.rlsf_blocks.specs.Spare.{KeepsSpare}
 use Rattle.rlsf_int.specs.declared.int.BitPattern.{Ghosts}
 use Rattle.rlsf_tlsf.specs.Allocator.{Allocator, Stands, allocator}
 use Rattle.rlsf_tlsf.specs.contracts.tlsf.Tlsf.{the_row}
@@ -16,11 +17,12 @@ touched m more = record m { touches = m.touches + more }
 unfoldable pub written : Allocator → ℕ → ℕ → List ℕ → Allocator
 written v addr len w = allocator (lent_space (touched v.memory 3) addr len w) v.table v.state
 
--- whatever was left there, chunks and the memory's place stay, memory and table represent the state, three touches are counted and no copy
+-- whatever was left there, chunks, the memory's place and spare bytes stay, the state is well-formed, three touches are counted and no copy
 abbrev pub LeavesRest : ℕ → ℕ → Allocator → Allocator → Type 0
 LeavesRest fllen sllen before after =
     (after.state.chunks ≡ before.state.chunks) × SamePlace before.memory after.memory × Stands fllen sllen after
     × (after.memory.touches ≡ before.memory.touches + 3) × (after.memory.copied ≡ before.memory.copied)
+    × KeepsSpare before.memory before.state after.memory after.state
 
 -- the allocator ends with what r leaves in the bytes from the address on, and else as it was
 abbrev pub lends_payload : (FL SL FLLEN SLLEN : RattleType) → Ghosts FL.Denot → Ghosts SL.Denot → MutBor Allocator → ℕ → MutBor (List ℕ) → Fml

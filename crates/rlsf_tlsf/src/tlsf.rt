@@ -63,7 +63,7 @@ impl<FLBitmap: BitPattern, SLBitmap: BitPattern, const FLLEN: usize, const SLLEN
     FLLEN,
     SLLEN,
 > {
-    ghost use Rattle.rlsf_tlsf.specs.Allocator.{Stands, Steps};
+    ghost use Rattle.rlsf_tlsf.specs.Allocator.{IsRepresented, Stands, Steps};
     ghost use Rattle.rlsf_tlsf.specs.Lending.{LeavesRest, lends_payload, written};
     ghost use Rattle.rlsf_tlsf.specs.Bounds.{KeepsAllBounds, KeepsBounds, TakesRoom, TakesRoomAgain};
     ghost use Rattle.rlsf_tlsf.specs.Results.{IsAllocated, IsDeallocated, IsFilled, IsReallocated, IsResized, IsUnchanged};
@@ -435,12 +435,14 @@ impl<FLBitmap: BitPattern, SLBitmap: BitPattern, const FLLEN: usize, const SLLEN
         NonZeroUsize::new(self.table.newest(fl, sl))
     }
 
-    /// Returns the memory, for reading. Its words and the class table represent the state, and the parameters are valid as for `new`.
+    /// Returns the memory, for reading. The state is well-formed in it (`stands`), its words and the class table encode the state
+    /// (`represented`), and the parameters are valid as for `new`.
     ///
     /// Completes in constant time.
     pub fn memory_ref(&self) -> &Memory
         ensures memory { result.now ≡ self.now.memory }
         ensures stands { Stands FLLEN SLLEN self.now }
+        ensures represented { IsRepresented FLLEN SLLEN self.now }
         ensures valid { IsValid FLBitmap.width SLBitmap.width FLLEN SLLEN }
     {
         &self.memory

@@ -78,10 +78,10 @@ module _ {S : Type 0} {fllen sllen : ℕ} {terms : S → Terms} {owes : S → Li
       × (length u.bytes ≡ (usable u).len)
   owned name p is =
       let (u, owns, holds, _) = owned_live at.are_named name p is in
-      (u, owns, holds, bytes_at-held at.stands.machine.well_formed (address p) u holds, (at.stands.machine.well_formed.used u owns.0).bytes)
+      (u, owns, holds, bytes_at-held at.stands.well_formed.machine (address p) u holds, (at.stands.well_formed.machine.used u owns.0).bytes)
 
   live_in : (addr align : ℕ) → IsLive v.state.machine addr align → align_at v.state.machine addr ≡ Some align
-  live_in addr align (u, held, same) = subst (λ a. align_at v.state.machine addr ≡ Some a) same (align_at-held at.stands.machine.well_formed addr u held)
+  live_in addr align (u, held, same) = subst (λ a. align_at v.state.machine addr ≡ Some a) same (align_at-held at.stands.well_formed.machine addr u held)
 
   -- it is live with its alignment
   pub live : (name : ℕ) (p : Payload) → get nat_eq table name ≡ Some p → align_at v.state.machine (address p) ≡ Some p.align
@@ -170,5 +170,5 @@ module _ {S : Type 0} {fllen sllen : ℕ} {terms : S → Terms} {owes : S → Li
       filled op addr bytes is_done does alone = LeadsOn-alone (Fills v.state.machine addr bytes) op Done (named_in table) alone (λ step same. (
         does w.state.machine step,
         made-fill addr bytes is_done step same,
-        AreNamed-filled at.are_named fllen sllen (range_of v.memory) w.state.machine addr bytes at.stands.machine.well_formed step,
+        AreNamed-filled at.are_named fllen sllen (range_of v.memory) w.state.machine addr bytes at.stands.well_formed.machine step,
       ))

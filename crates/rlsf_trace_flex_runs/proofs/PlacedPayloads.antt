@@ -67,9 +67,9 @@ module _ {fllen sllen : ℕ} {terms : Terms} {s : FlexState} {table : NameTable}
       AreNamed-reallocated are fllen sllen before u.machine name size addr to p whole_before its live
       (subst (λ x. Reallocates sllen s.machine addr size (Some to) x.machine) (sym room.after) room.reallocates) p_addr
   AreNamed-flex_reallocated before after {u = u} name size addr to p whole_before whole_after its (owner, holds, aligned) (inr more) p_addr =
-      let (is_used, at) = more.stuck.holds in
-      let same = Holds-unique whole_before addr more.block owner more.stuck.holds holds in
-      let there = Holds-same s.machine more.meanwhile.machine addr more.block (used-taken fllen terms s more.meanwhile more.outcome more.asks.extends.after) more.stuck.holds in
+      let (is_used, at) = more.holds in
+      let same = Holds-unique whole_before addr more.block owner more.holds holds in
+      let there = Holds-same s.machine more.meanwhile.machine addr more.block (used-taken fllen terms s more.meanwhile more.outcome more.asks.extends.after) more.holds in
       AreNamed-moved (AreNamed-asked more.asks) fllen sllen after u.machine name size to more.block p whole_after there.0 (its ∙ ap Some (sym at))
       (subst (λ x. MovesAway sllen more.meanwhile.machine more.block size to x.machine) (sym more.after) more.moves)
       (λ is. more.elsewhere (is ∙ at)) p_addr (sym (ap (λ x. x.align) same ∙ aligned))
@@ -87,7 +87,7 @@ module _ {S : Type 0} {fllen sllen : ℕ} {terms : S → Terms} {owes : S → Li
       let to = non_zero_usize_get addr in
       LeadsOn-named (Alloc name layout) (Placed (Some addr)) notes (with_name name (Some to) (named_in table)) (unnamed at.are_named name free, w.state, step, refl)
       (one_call (allocate layout.size layout.align (Some to)) refl (record { may = layout.valid.aligned; answers = answers; leads = step })) leads_by outside stands
-      (AreNamed-flex_allocated at.are_named (range_of w.memory) name layout.size layout.align to p stands.machine.well_formed step p_addr p_align added)
+      (AreNamed-flex_allocated at.are_named (range_of w.memory) name layout.size layout.align to p stands.well_formed.machine step p_addr p_align added)
 
   -- an allocation was refused
   pub not_allocated : (name : ℕ) (layout : Layout) (addr : Option NonZeroUsize) → addr ≡ None → get nat_eq table name ≡ None
@@ -116,7 +116,7 @@ module _ {S : Type 0} {fllen sllen : ℕ} {terms : S → Terms} {owes : S → Li
       LeadsOn-named (Realloc name size) (Placed (Some addr)) notes (with_name name (Some to) (named_in table))
       (u, owns, subst (IsLayout size) (sym aligned) valid, w.state, moved, refl)
       (one_call (reallocate (address old) size (Some to)) (address old, refl) (record { may = (u, holds); answers = answers; leads = step })) leads_by outside stands
-      (AreNamed-flex_reallocated at.are_named (range_of v.memory) (range_of w.memory) name size (address old) to p at.stands.machine.well_formed stands.machine.well_formed
+      (AreNamed-flex_reallocated at.are_named (range_of v.memory) (range_of w.memory) name size (address old) to p at.stands.well_formed.machine stands.well_formed.machine
       (owns.1 ∙ ap Some holds.1) live step p_addr added)
 
   -- a reallocation was refused

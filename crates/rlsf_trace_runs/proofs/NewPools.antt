@@ -5,7 +5,7 @@ use Rattle.rlsf_base.specs.Range.{end_of}
 use Rattle.rlsf_model_sizes.specs.Rounding.{round32}
 use Rattle.rlsf_base.proofs.Numbers.Roundings.{round32-le}
 use Rattle.rlsf_model_sizes.specs.Sizes.{max_pool_size}
-use Rattle.rlsf_model.specs.Insert.{aligned_part, bytes_taken, cut, end_of_last, Inserts, with_chunk, with_chunks}
+use Rattle.rlsf_model.specs.Insert.{aligned_part, bytes_taken, cut, end_of_last, Inserts, with_chunks}
 use Rattle.rlsf_model.specs.Lists.{IsIn}
 use Rattle.rlsf_model.specs.State.{State}
 use Rattle.rlsf_model.specs.WellFormed.{covers, coverage, itself, IsWellFormed}
@@ -13,6 +13,7 @@ use Rattle.rlsf_model.proofs.Coverage.{inside, before, behind, covers-inside, co
 use Rattle.rlsf_model.proofs.Cuts.{coverage-cut, coverage-cut_last}
 use Rattle.rlsf_model.proofs.Insertions.{IsWhole-aligned_part}
 use Rattle.rlsf_model.proofs.Untouched.{coverage-with_chunks}
+use Rattle.rlsf_model.proofs.Names.{with_chunk}
 use Rattle.rlsf_trace_runs.specs.Runs.{with_new_pool}
 
 -- a chunk that was there is there still

@@ -11,12 +11,13 @@ use Rattle.rlsf_model.specs.Allocate.{Allocates}
 use Rattle.rlsf_model.specs.Lists.{IsIn}
 use Rattle.rlsf_model.specs.Reallocate.{Reallocates}
 use Rattle.rlsf_model.specs.Run.{Fills}
-use Rattle.rlsf_model.specs.State.{State, Used, Holds, usable, used_with_bytes}
+use Rattle.rlsf_model.specs.State.{State, Used, Holds, usable}
 use Rattle.rlsf_model.specs.WellFormed.{IsWellFormed}
 use Rattle.rlsf_model.proofs.Changes.{Holds-unique}
 use Rattle.rlsf_model.proofs.Chunks.{used-inserted, used-appended}
 use Rattle.rlsf_model.proofs.Fillings.{filled_holds}
 use Rattle.rlsf_model.proofs.NoMove.{unmoved_is_reallocated}
+use Rattle.rlsf_model.proofs.Names.{used_with_bytes}
 use Rattle.rlsf_trace_text.specs.declared.op.Answer.{Answer}
 use Rattle.rlsf_trace_text.specs.declared.op.Answer.TheVariants.{Inserted, Appended, Placed, Done, Byte, Usable, Block, Refused}
 use Rattle.rlsf_trace_text.specs.declared.op.Op.{Op}

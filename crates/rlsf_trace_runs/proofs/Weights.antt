@@ -6,15 +6,16 @@ use Rattle.std.proofs.lemmas.List.Sums.{sum_by-cons}
 use Rattle.rlsf_base.specs.declared.memory.range.Range.{Range}
 use Rattle.rlsf_model.specs.Allocate.{placed, Allocates}
 use Rattle.rlsf_model.specs.Lists.{IsIn}
-use Rattle.rlsf_model.specs.Reallocate.{moved, Plan, plan, Reallocates, ReallocatesBy}
+use Rattle.rlsf_model.specs.Reallocate.{Plan, plan, Reallocates, ReallocatesBy}
 use Rattle.rlsf_model.specs.Release.{Deallocates}
 use Rattle.rlsf_model.specs.Run.{Fills}
-use Rattle.rlsf_model.specs.State.{State, Used, Holds, others, used_with_bytes, filled_if}
+use Rattle.rlsf_model.specs.State.{State, Used, Holds, others}
 use Rattle.rlsf_model.specs.WellFormed.{IsWellFormed}
 use Rattle.rlsf_model.proofs.Allocations.{Allocates-keeps}
 use Rattle.rlsf_model.proofs.Changes.{Holds-unique, IsIn-others_from}
 use Rattle.rlsf_model.proofs.Coverage.{by_test}
 use Rattle.rlsf_model.proofs.Live.{handed_out_is_new, live_address_has_one_block}
+use Rattle.rlsf_model.proofs.Names.{moved, used_with_bytes, filled_if}
 
 -- a measure sees no bytes
 abbrev pub IsBlind : (Used → ℕ) → Type 0

@@ -12,6 +12,7 @@ use Rattle.rlsf_model_sizes.specs.PowerOfTwo.{IsPowerOfTwo}
 use Rattle.rlsf_base.specs.Range.{end_of, LiesIn, range_at}
 use Rattle.rlsf_model_sizes.specs.SizeClass.{class_of}
 use Rattle.rlsf_model_sizes.specs.Sizes.{request_size}
+use Rattle.rlsf_model_sizes.specs.Rounding.{round32}
 use Rattle.rlsf_table.specs.Rewrites.{CanBeBlock, Rewrites}
 use Rattle.rlsf_table.specs.Table.{Table}
 use Rattle.rlsf_table.proofs.Tables.FreeTables.{HasTable-Rewrites}
@@ -20,7 +21,7 @@ use Rattle.rlsf_table.proofs.Words.Writing.{IsWrite, write, rewrites_of, reads_o
 use Rattle.rlsf_blocks.specs.Steps.Touched.{Touched, in_hole}
 use Rattle.rlsf_model.specs.Allocate.{choice, given, has_class, placed, Places, rest_behind}
 use Rattle.rlsf_model.specs.Lists.{IsIn, without}
-use Rattle.rlsf_model.specs.Payload.{block_for, block_length, payload_of}
+use Rattle.rlsf_model.specs.Payload.{block_for, payload_of}
 use Rattle.rlsf_model.specs.State.{State, Used, between}
 use Rattle.rlsf_model.specs.WellFormed.{IsWellFormed}
 use Rattle.rlsf_blocks.specs.Spare.{KeepsSpare}
@@ -47,7 +48,7 @@ module _ {fllen sllen : ℕ} {m : Space} {table : Table} {s : State} (v : Stands
   payload = payload_of f.start align
 
   abbrev taken : ℕ
-  taken = block_length f.start payload size
+  taken = round32 (payload - f.start + size)
 
   pub is_free : IsIn f s.free
   is_free = (choice-some sllen (request_size size align) s.free f chosen).is_in
@@ -56,9 +57,9 @@ module _ {fllen sllen : ℕ} {m : Space} {table : Table} {s : State} (v : Stands
   pub record IsFitting : Type 0 where
     pub whole : f.start % 32 ≡ 0
     pub after_start : f.start + 16 ≤ payload_of f.start align
-    pub before_end : payload_of f.start align ≤ f.start + block_length f.start (payload_of f.start align) size
-    pub long : 32 ≤ block_length f.start (payload_of f.start align) size
-    pub granules : block_length f.start (payload_of f.start align) size % 32 ≡ 0
+    pub before_end : payload_of f.start align ≤ f.start + round32 (payload_of f.start align - f.start + size)
+    pub long : 32 ≤ round32 (payload_of f.start align - f.start + size)
+    pub granules : round32 (payload_of f.start align - f.start + size) % 32 ≡ 0
     pub wide : 32 ≤ align → payload_of f.start align % 32 ≡ 0
 
   pub fitting : IsFitting
@@ -71,7 +72,7 @@ module _ {fllen sllen : ℕ} {m : Space} {table : Table} {s : State} (v : Stands
     wide = λ w. wide_whole payload align power w (payload_of-aligned f.start align power);
   }
 
-  pub IsTaken-chosen : IsTaken sllen s f f.start f.len (block_length f.start (payload_of f.start align) size)
+  pub IsTaken-chosen : IsTaken sllen s f f.start f.len (round32 (payload_of f.start align - f.start + size))
   IsTaken-chosen = record {
     found = (choice-some sllen (request_size size align) s.free f chosen).found;
     start = refl;
@@ -82,8 +83,8 @@ module _ {fllen sllen : ℕ} {m : Space} {table : Table} {s : State} (v : Stands
   }
 
   -- the used block's words were written
-  module _ {n1 n2 n : Space} {changed : Table} (opened : IsOpened fllen sllen m n1 changed s f (range_at f.start (block_length f.start (payload_of f.start align) size)))
-      (sized : IsWrite n1 n2 f.start (block_length f.start (payload_of f.start align) size + 1)) (padded : Writes n2 n (32 ≤ align) (payload_of f.start align - 8) f.start) where
+  module _ {n1 n2 n : Space} {changed : Table} (opened : IsOpened fllen sllen m n1 changed s f (range_at f.start (round32 (payload_of f.start align - f.start + size))))
+      (sized : IsWrite n1 n2 f.start (round32 (payload_of f.start align - f.start + size) + 1)) (padded : Writes n2 n (32 ≤ align) (payload_of f.start align - 8) f.start) where
     abbrev u : Used
     u = placed f size align (bytes_in n (between payload (end_of (block_for f.start payload size))))
 
@@ -224,7 +225,7 @@ module _ {fllen sllen : ℕ} {m : Space} {table : Table} {s : State} (v : Stands
     pub start : f.start ≡ block
     pub length : len ≡ f.len
     pub payload : address ≡ payload_of f.start align
-    pub taken : bytes ≡ block_length f.start (payload_of f.start align) size
+    pub taken : bytes ≡ round32 (payload_of f.start align - f.start + size)
 
   pub AreComputed-from : (block len to address wanted bytes : ℕ) → f.start ≡ block → len ≡ word_at m block → to ≡ align
       → address ≡ next_multiple_of (block + 16) to → wanted ≡ size → bytes ≡ next_multiple_of (address - block + wanted) 32 → AreComputed block len address bytes
@@ -299,6 +300,6 @@ module _ {fllen sllen : ℕ} {m : Space} {table : Table} {s : State} {v : Stands
         → (t : State) × Places sllen s size align address t × StandsFor fllen sllen (contents n changed) t × KeepsSpare m s n t
     Places-sized {n} padded =
         Places-written v f size align power chosen (subst (λ q. IsOpened fllen sllen m n1 changed s f q) (ap₂ (λ b t. range_at b t) (sym are.start) are.taken) is.opened)
-        (subst (λ b. IsWrite n1 n2 b (block_length f.start (payload_of f.start align) size + 1)) (sym are.start) (subst (λ t. IsWrite n1 n2 block (t + 1)) are.taken is.sized))
+        (subst (λ b. IsWrite n1 n2 b (round32 (payload_of f.start align - f.start + size) + 1)) (sym are.start) (subst (λ t. IsWrite n1 n2 block (t + 1)) are.taken is.sized))
         (subst (λ b. Writes n2 n (32 ≤ align) (payload_of f.start align - 8) b) (sym are.start) (subst (λ p. Writes n2 n (32 ≤ align) (p - 8) block) are.payload padded))
         address are.payload

@@ -9,7 +9,7 @@ use Rattle.rlsf_base.specs.Space.{Space, range_of}
 use Rattle.rlsf_base.proofs.Numbers.Roundings.{round32-le}
 use Rattle.rlsf_table.specs.Counts.{Costs}
 use Rattle.rlsf_table.specs.Table.{Table}
-use Rattle.rlsf_model.specs.Insert.{aligned_part, body, bytes_taken, cut, end_of_last, Inserts, IsFresh, with_chunk, with_chunks}
+use Rattle.rlsf_model.specs.Insert.{aligned_part, body, bytes_taken, cut, end_of_last, Inserts, IsFresh, with_chunks}
 use Rattle.rlsf_model.specs.Laws.{first_length}
 use Rattle.rlsf_model.specs.State.{State}
 use Rattle.rlsf_model.specs.WellFormed.{IsChunk, IsFree, IsWellFormed}
@@ -23,6 +23,7 @@ use Rattle.rlsf_blocks.proofs.Words.Stays.{Stays, Stays-rewrites, Stays-same, St
 use Rattle.rlsf_model.proofs.Coverage.{covers-inside}
 use Rattle.rlsf_model.proofs.Cuts.{chunks_are_cut_off_the_front}
 use Rattle.rlsf_model.proofs.Insertions.{AreNew, AreNew-cut, IsWellFormed-with_chunk}
+use Rattle.rlsf_model.proofs.Names.{with_chunk}
 
 -- ---- the state of the loop
 

@@ -1,6 +1,7 @@
 -- The words at the neighbours of a used block show whether they are free.
+use Rattle.std.specs.Option.{option_map_or}
 use Rattle.rlsf_base.proofs.Lending.WordIsHere.{is_word}
-use Rattle.std.proofs.Common.{◌^◌, ◌≡◌, ◌≢◌, ℕ, ◌+◌, ◌-◌, ◌%◌, ◌<◌, ◌≤◌, Some, None, find, arith, inl, sym, ◌∙◌, ap, subst}
+use Rattle.std.proofs.Common.{◌^◌, ◌≡◌, ◌≢◌, ℕ, ◌+◌, ◌-◌, ◌%◌, ◌<◌, ◌≤◌, Some, None, find, arith, inl, sym, ◌∙◌, ap, subst, Option}
 use Rattle.rlsf_base.proofs.Lending.Present.{own-word}
 use Rattle.rlsf_base.specs.OpenSpace.{IsReadable}
 use Rattle.rlsf_model.specs.WellFormed.{last_bytes}
@@ -19,7 +20,7 @@ use Rattle.rlsf_table.proofs.Words.Writes.{before_links}
 use Rattle.rlsf_blocks.specs.InBand.{sentinel_of}
 use Rattle.rlsf_blocks.specs.StandsFor.{contents, StandsFor}
 use Rattle.rlsf_blocks.specs.Steps.Join.{FreeBlockBegins, IsMarked, IsNextOut, IsPreviousOut}
-use Rattle.rlsf_model.specs.Join.{ends_at, starts_at, start_or, end_or}
+use Rattle.rlsf_model.specs.Join.{ends_at, starts_at}
 use Rattle.rlsf_model.specs.Lists.{IsIn, without}
 use Rattle.rlsf_model.specs.State.{State, Used}
 use Rattle.rlsf_model.proofs.Coverage.{IsIn-without, IsIn-without_other, without-none}
@@ -133,7 +134,7 @@ module _ {fllen sllen : ℕ} {m : Space} {t : Table} {s : State} (v : StandsFor 
         missing e = record {
           rewrites = Rewrites-counted m n start bytes out (IsLink s.free);
           list = subst (IsFreeTable fllen sllen n t) (sym (without-none (ends_at b) s.free e)) (IsFreeTable-counted m n start bytes out (IsFreeTable-free v));
-          begins = sym (ap (start_or b) e);
+          begins = sym (ap (λ (o : Option Range). option_map_or (λ f. f.start) o b) e);
         }
 
         go : Named m s b previous → IsPreviousOut fllen sllen m n t s.free b b
@@ -153,21 +154,21 @@ module _ {fllen sllen : ℕ} {m : Space} {t : Table} {s : State} (v : StandsFor 
     -- a length is that of the free block before it, or 0 if none is before it
     pub record IsLengthBefore (len : ℕ) : Type 0 where
       pub within : len ≤ b
-      pub begins : b - len ≡ start_or b (find (ends_at b) s.free)
+      pub begins : b - len ≡ option_map_or (λ f. f.start) (find (ends_at b) s.free) b
       pub ends : 0 < len → previous + len ≡ b
       pub left : without (starts_at previous) s.free ≡ without (ends_at b) s.free
 
     -- as the length of a free block that begins where the word says, or 0, is
-    pub length_before : {len : ℕ} → previous ≢ 0 → previous + len ≡ end_or previous (find (starts_at previous) s.free) → IsLengthBefore len
+    pub length_before : {len : ℕ} → previous ≢ 0 → previous + len ≡ option_map_or end_of (find (starts_at previous) s.free) previous → IsLengthBefore len
     length_before {len} some long = go named
       where
         missing : (FreeBlockBegins s.free previous → ⊥) → find (ends_at b) s.free ≡ None → IsLengthBefore len
         missing none e =
             let no_start = find-no_start s.free previous (λ f j same. none (f, j, same)) in
-            let end : previous + len ≡ previous = long ∙ ap (end_or previous) no_start in
+            let end : previous + len ≡ previous = long ∙ ap (λ (o : Option Range). option_map_or end_of o previous) no_start in
             record {
               within = omega (arith, end);
-              begins = omega (arith, end) ∙ sym (ap (start_or b) e);
+              begins = omega (arith, end) ∙ sym (ap (λ (o : Option Range). option_map_or (λ f. f.start) o b) e);
               ends = λ more. absurd (omega (arith, end));
               left = without-none (starts_at previous) s.free no_start ∙ sym (without-none (ends_at b) s.free e);
             }
@@ -175,10 +176,10 @@ module _ {fllen sllen : ℕ} {m : Space} {t : Table} {s : State} (v : StandsFor 
         go : Named m s b previous → IsLengthBefore len
         go (names_free f j end same found) =
             let start = find-start s.free f previous (IsFreeTable-free v).apart (λ g k. (v.well_formed.free g k).some) j (sym same) in
-            let to : previous + len ≡ b = long ∙ ap (end_or previous) start ∙ end in
+            let to : previous + len ≡ b = long ∙ ap (λ (o : Option Range). option_map_or end_of o previous) start ∙ end in
             record {
               within = omega arith;
-              begins = omega arith ∙ sym (ap (start_or b) found);
+              begins = omega arith ∙ sym (ap (λ (o : Option Range). option_map_or (λ f. f.start) o b) found);
               ends = λ more. to;
               left = without-same (starts_at previous) (ends_at b) f s.free start found;
             }

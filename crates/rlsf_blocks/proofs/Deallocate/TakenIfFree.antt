@@ -1,7 +1,9 @@
 -- A block is taken out of the table, if it is free.
-use Rattle.std.proofs.Common.{◌≡◌, ◌↔◌, ℕ, ◌%◌, Bool, false, true≢false, IsTrue, List, ◌∷◌, ◌++◌, arith, sym, ◌∙◌, ap, subst}
+use Rattle.std.specs.Option.{option_map_or}
+use Rattle.std.proofs.Common.{◌≡◌, ◌↔◌, ℕ, ◌%◌, Bool, false, true≢false, IsTrue, List, ◌∷◌, ◌++◌, arith, sym, ◌∙◌, ap, subst, Option}
 use Rattle.rlsf_base.specs.declared.memory.range.Range.{Range}
 use Rattle.rlsf_base.specs.Space.{Space, word_at}
+use Rattle.rlsf_base.specs.Range.{end_of}
 use Rattle.rlsf_table.specs.Rewrites.{IsLink, Rewrites}
 use Rattle.rlsf_table.specs.FreeTable.{IsFreeTable}
 use Rattle.rlsf_table.specs.Table.{Table, HasTable}
@@ -10,7 +12,7 @@ use Rattle.rlsf_table.proofs.FreeLists.Counted.{IsFreeTable-counted, Rewrites-co
 use Rattle.rlsf_table.proofs.FreeLists.Found.{find-start, find-no_start}
 use Rattle.rlsf_table.proofs.Tables.FreeTables.{IsFreeTable-removal}
 use Rattle.rlsf_blocks.specs.Steps.Join.{IsMarked, IsNextOut}
-use Rattle.rlsf_model.specs.Join.{starts_at, end_or}
+use Rattle.rlsf_model.specs.Join.{starts_at}
 use Rattle.rlsf_model.specs.Lists.{IsIn}
 use Rattle.rlsf_model.proofs.Coverage.{without-none}
 
@@ -37,7 +39,7 @@ module _ {fllen sllen : ℕ} {m : Space} {t : Table} {block : ℕ} {free : List 
       record {
         rewrites = subst (λ l. Rewrites m n (IsLink l)) (sym parts) rewrites;
         list = subst (IsFreeTable fllen sllen n u) (sym left) (IsFreeTable-removal before f after whole table rewrites);
-        end = omega (arith, at, long) ∙ sym (ap (end_or block) found);
+        end = omega (arith, at, long) ∙ sym (ap (λ (o : Option Range). option_map_or end_of o block) found);
       }
 
   -- no free block begins there
@@ -48,5 +50,5 @@ module _ {fllen sllen : ℕ} {m : Space} {t : Table} {block : ℕ} {free : List 
       record {
         rewrites = Rewrites-counted m n start bytes out (IsLink free);
         list = subst (IsFreeTable fllen sllen n t) (sym (without-none (starts_at block) free none)) (IsFreeTable-counted m n start bytes out list);
-        end = omega arith ∙ sym (ap (end_or block) none);
+        end = omega arith ∙ sym (ap (λ (o : Option Range). option_map_or end_of o block) none);
       }

@@ -1,5 +1,5 @@
 -- What an append does, by the greatest length of a chunk.
-use Rattle.std.proofs.Common.{◌≡◌, ℕ, ◌+◌, ◌*◌, ◌/◌, ◌^◌, ◌<◌, true, false, List, [], ◌∷◌, length, Option, Some, None, find}
+use Rattle.std.proofs.Common.{◌≡◌, ℕ, ◌+◌, ◌*◌, ◌/◌, ◌^◌, ◌<◌, true, false, List, [], ◌∷◌, length, Option, Some, None, find, ◌-◌}
 use Rattle.std.proofs.Common.{true≢false, arith, refl, sym, ◌∙◌, ap, subst, inl, inr}
 use Rattle.std.proofs.lemmas.Bool.{eq-eqb, eqb-true}
 use Rattle.std.specs.Option.{is_some}
@@ -9,7 +9,7 @@ use Rattle.rlsf_base.specs.Range.{end_of}
 use Rattle.rlsf_model_sizes.specs.Sizes.{max_pool_size}
 use Rattle.rlsf_base.specs.Space.{Space}
 use Rattle.rlsf_table.specs.Counts.{Costs}
-use Rattle.rlsf_model.specs.Insert.{aligned_part, appended, appended_bytes, bytes_taken, cut, extended, grown, total_length, Appends, Inserts, IsNext}
+use Rattle.rlsf_model.specs.Insert.{aligned_part, appended, appended_bytes, bytes_taken, cut, extended, grown, Appends, Inserts, IsNext, end_of_last}
 use Rattle.rlsf_model.specs.Join.{ends_at}
 use Rattle.rlsf_model.specs.State.{State}
 use Rattle.rlsf_model.proofs.Coverage.{find-none, find-some}
@@ -41,7 +41,7 @@ abbrev pub or_zero : Option ℕ → ℕ
 or_zero None = 0
 or_zero (Some n) = n
 
-bytes_taken-total : (at : ℕ) (cs : List Range) → or_zero (bytes_taken at cs) ≡ total_length at cs
+bytes_taken-total : (at : ℕ) (cs : List Range) → or_zero (bytes_taken at cs) ≡ (end_of_last at cs - at)
 bytes_taken-total at [] = omega arith
 bytes_taken-total at (c ∷ cs) = refl
 

@@ -7,12 +7,13 @@ use Rattle.rlsf_base.specs.Space.{Space, byte_range, bytes_in, out_at, range_of}
 use Rattle.rlsf_base.proofs.Lending.Replaced.{byte_at-same}
 use Rattle.rlsf_model.specs.Lists.{IsIn}
 use Rattle.rlsf_model.specs.Run.{Fills}
-use Rattle.rlsf_model.specs.State.{State, Used, usable, Holds, used_with_bytes, filled_if, filled}
+use Rattle.rlsf_model.specs.State.{State, Used, usable, Holds, filled}
 use Rattle.rlsf_model.specs.WellFormed.{IsUsed, IsWellFormed}
 use Rattle.rlsf_model.proofs.Changes.{Holds-unique}
 use Rattle.rlsf_model.proofs.Coverage.{IsIn-map, map-same}
 use Rattle.rlsf_model.proofs.Fillings.{filled_if-here, filled_if-other}
 use Rattle.rlsf_model.proofs.Payloads.{IsUsed-after_start, IsUsed-some}
+use Rattle.rlsf_model.proofs.Names.{used_with_bytes, filled_if}
 use Rattle.rlsf_blocks.specs.Laws.{DiffersInPayloads, read_from, with_bytes_of}
 use Rattle.rlsf_blocks.specs.Spare.{KeepsSpare}
 use Rattle.rlsf_blocks.specs.StandsFor.{Contents, StandsFor}

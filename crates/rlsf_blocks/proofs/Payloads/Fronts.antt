@@ -9,7 +9,7 @@ use Rattle.rlsf_base.specs.Space.{Space, bytes_in, with_bytes}
 use Rattle.rlsf_base.proofs.Lending.Present.{out-same}
 use Rattle.rlsf_base.proofs.Lending.Replaced.{bytes_in-with, length-with}
 use Rattle.rlsf_model.specs.Run.{Fills}
-use Rattle.rlsf_model.specs.State.{State, Used, usable, Holds, with_front}
+use Rattle.rlsf_model.specs.State.{State, Used, usable, Holds}
 use Rattle.rlsf_blocks.specs.Spare.{KeepsSpare}
 use Rattle.rlsf_blocks.specs.StandsFor.{Contents, StandsFor}
 use Rattle.rlsf_blocks.proofs.Payloads.Filled.{IsSameOutside, stands_filled}
@@ -62,14 +62,14 @@ module _ {fllen sllen : ℕ} {v : Contents} {s : State} (old : StandsFor fllen s
       ]);
     }
 
-    bytes_in-filled : bytes_in n (usable w) ≡ with_front len u.bytes w.bytes
+    bytes_in-filled : bytes_in n (usable w) ≡ (take len u.bytes ++ drop len w.bytes)
     bytes_in-filled =
         let most = (usable w).len in
         let lies = LiesIn-usable (IsPayloadOf-holds w refl old target) in
         (λ i. take most (drop (target.1 i - start i) (spliced i))) ∙ front-splice m.bytes front (to - m.start) len most (omega (arith, lies, target.1)) full room
         ∙ ap (λ a. front ++ drop len (take most (drop (a - m.start) m.bytes))) (sym target.1) ∙ ap (λ bs. front ++ drop len bs) (old.payloads.bytes w target.0)
 
-    pub stands_copied : (t : State) × Fills s to (with_front len u.bytes w.bytes) t × StandsFor fllen sllen (record v { memory = n }) t × KeepsSpare m s n t
+    pub stands_copied : (t : State) × Fills s to (take len u.bytes ++ drop len w.bytes) t × StandsFor fllen sllen (record v { memory = n }) t × KeepsSpare m s n t
     stands_copied =
         subst (λ bs. (t : State) × Fills s to bs t × StandsFor fllen sllen (record v { memory = n }) t × KeepsSpare m s n t) bytes_in-filled
         (stands_filled old to w target n IsSameOutside-front)

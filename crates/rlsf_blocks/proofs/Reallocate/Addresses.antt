@@ -2,8 +2,9 @@
 use Rattle.std.proofs.Common.{◌≡◌, ◌≢◌, ℕ, zero, suc, Option, Some, None, arith, inl, refl, subst, sym}
 use Rattle.rlsf_base.specs.Addr.{reply_of}
 use Rattle.rlsf_model.proofs.Payloads.{IsUsed-after_start, payload_of-after}
+use Rattle.rlsf_model.proofs.Names.{moved}
 use Rattle.rlsf_model.specs.Lists.{IsIn}
-use Rattle.rlsf_model.specs.Reallocate.{Plan, ReallocatesBy, moved}
+use Rattle.rlsf_model.specs.Reallocate.{Plan, ReallocatesBy}
 use Rattle.rlsf_model.specs.State.{State, Used}
 use Rattle.rlsf_model.specs.WellFormed.{IsUsed}
 

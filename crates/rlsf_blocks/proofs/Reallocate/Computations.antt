@@ -2,12 +2,13 @@
 use Rattle.std.proofs.Common.{◌≡◌, ℕ, ◌+◌, ◌-◌, ◌%◌, ◌<◌, find, arith, sym, ◌∙◌, ap, subst}
 use mathlib.Core.Path.{ap₂}
 use Rattle.std.specs.Int.{next_multiple_of}
+use Rattle.std.specs.Option.{option_map_or}
 use Rattle.rlsf_base.specs.Range.{end_of}
 use Rattle.rlsf_base.specs.Space.{Space, word_at}
-use Rattle.rlsf_model.specs.Join.{starts_at, end_or}
-use Rattle.rlsf_model.specs.Reallocate.{resized}
+use Rattle.rlsf_model.specs.Join.{starts_at}
 use Rattle.rlsf_model.specs.State.{State, Used}
 use Rattle.rlsf_model.proofs.Payloads.{block_length-le, block_length-whole, IsUsed-after_start}
+use Rattle.rlsf_model.proofs.Names.{resized}
 use Rattle.rlsf_blocks.specs.StandsFor.{contents, StandsFor}
 use Rattle.rlsf_blocks.specs.Steps.Join.{IsMarked, IsNextOut}
 use Rattle.rlsf_blocks.specs.Steps.Resize.{IsUsedAt}
@@ -43,5 +44,5 @@ module _ {fllen sllen : ℕ} {m : Space} {t : Table} {s : State} (v : StandsFor 
           → IsNextOut fllen sllen m o x s.free (end_of u.block) next
       IsNextOut-end {o} {x} {next} gone = IsNextOut-loaded m n start bytes out (subst (λ e. IsNextOut fllen sllen n o x s.free e next) (sym end_is) gone)
 
-    pub reach_is : (next : ℕ) → block + len + next ≡ end_or (block + len) (find (starts_at (block + len)) s.free) → end_of u.block + next ≡ reach s u
-    reach_is next ends = subst (λ e. e + next ≡ end_or e (find (starts_at e) s.free)) (sym end_is) ends
+    pub reach_is : (next : ℕ) → block + len + next ≡ option_map_or end_of (find (starts_at (block + len)) s.free) (block + len) → end_of u.block + next ≡ reach s u
+    reach_is next ends = subst (λ e. e + next ≡ option_map_or end_of (find (starts_at e) s.free) e) (sym end_is) ends

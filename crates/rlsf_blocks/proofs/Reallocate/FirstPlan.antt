@@ -1,8 +1,9 @@
 -- A reallocation follows the first plan that can be, or else it goes elsewhere.
+use Rattle.std.specs.Option.{option_or}
 use Rattle.std.proofs.Common.{◌≡◌, ℕ, Option, Some, None, MatchOption, IfNone, refl, sym, ◌∙◌, ap, subst}
 use Rattle.rlsf_base.specs.Space.{Space}
 use Rattle.rlsf_model.specs.Allocate.{Allocates}
-use Rattle.rlsf_model.specs.Reallocate.{Plan, in_place, into_next, into_previous, or_else, plan, MovesAway, ReallocatesBy, Replans}
+use Rattle.rlsf_model.specs.Reallocate.{Plan, in_place, into_next, into_previous, plan, MovesAway, ReallocatesBy, Replans}
 use Rattle.rlsf_model.specs.State.{State, Used}
 use Rattle.rlsf_blocks.specs.Spare.{KeepsSpare}
 use Rattle.rlsf_blocks.specs.StandsFor.{contents, StandsFor}
@@ -17,20 +18,20 @@ own_align at = record { is_used = at.is_used; start = at.start; caller = at.call
 
 -- ---- choices of plans
 
-or_else-associative : (p q r : Option Plan) → or_else p (or_else q r) ≡ or_else (or_else p q) r
+or_else-associative : (p q r : Option Plan) → option_or p (option_or q r) ≡ option_or (option_or p q) r
 or_else-associative None q r = refl
 or_else-associative (Some p) q r = refl
 
-pub or_else-none_first : (p q : Option Plan) → or_else p q ≡ None → p ≡ None
+pub or_else-none_first : (p q : Option Plan) → option_or p q ≡ None → p ≡ None
 or_else-none_first None q none = refl
 or_else-none_first (Some p) q none = absurd (cc)
 
 module _ (s : State) (u : Used) (size : ℕ) where
   -- the last plan, if neither of the first two can be
-  pub plan-moves : or_else (in_place s u size) (into_next s u size) ≡ None → plan s u size ≡ into_previous s u size
-  plan-moves none = or_else-associative (in_place s u size) (into_next s u size) (into_previous s u size) ∙ ap (λ o. or_else o (into_previous s u size)) none
+  pub plan-moves : option_or (in_place s u size) (into_next s u size) ≡ None → plan s u size ≡ into_previous s u size
+  plan-moves none = or_else-associative (in_place s u size) (into_next s u size) (into_previous s u size) ∙ ap (λ o. option_or o (into_previous s u size)) none
 
-  pub in_place-none : or_else (in_place s u size) (into_next s u size) ≡ None → in_place s u size ≡ None
+  pub in_place-none : option_or (in_place s u size) (into_next s u size) ≡ None → in_place s u size ≡ None
   in_place-none = or_else-none_first (in_place s u size) (into_next s u size)
 
 -- ---- the step that was made

@@ -1,5 +1,6 @@
 -- A used block moved into the free block before it: the value represents the planned state.
-use Rattle.std.proofs.Common.{◌≡◌, ◌≢◌, ℕ, leb, ◌+◌, ◌-◌, ◌%◌, ◌≤◌, ◌<◌, ◌⊎◌, List, ◌++◌, Some, None, find, length, take}
+use Rattle.std.specs.Option.{option_map_or}
+use Rattle.std.proofs.Common.{◌≡◌, ◌≢◌, ℕ, leb, ◌+◌, ◌-◌, ◌%◌, ◌≤◌, ◌<◌, ◌⊎◌, List, ◌++◌, Some, None, find, length, take, Option}
 use Rattle.std.proofs.Common.{drop, min, arith, inl, inr, refl, sym, ◌∙◌, ap, subst}
 use mathlib.Core.Path.{ap₂}
 use Rattle.std.proofs.lemmas.Bool.{leb-false}
@@ -12,10 +13,10 @@ use Rattle.rlsf_base.specs.OpenSpace.{IsHere, IsOwned}
 use Rattle.rlsf_base.proofs.Lending.Present.{own-there}
 use Rattle.rlsf_base.proofs.Lending.Copied.{bytes_in-copied, word_at-with_bytes}
 use Rattle.rlsf_model.specs.Allocate.{rest_behind}
-use Rattle.rlsf_model.specs.Join.{ends_at, start_or}
+use Rattle.rlsf_model.specs.Join.{ends_at}
 use Rattle.rlsf_model.specs.Lists.{IsIn, without}
 use Rattle.rlsf_model.specs.Payload.{payload_of}
-use Rattle.rlsf_model.specs.Reallocate.{Keeps, in_place, moved, replanned}
+use Rattle.rlsf_model.specs.Reallocate.{Keeps, in_place}
 use Rattle.rlsf_model.specs.State.{State, Used, between, usable}
 use Rattle.rlsf_model.specs.WellFormed.{IsWellFormed}
 use Rattle.rlsf_model.proofs.Changes.{IsIn-others, IsIn-rest_behind}
@@ -39,6 +40,7 @@ use Rattle.rlsf_blocks.proofs.Reallocate.Previous.{into_previous-fits, planned, 
 use Rattle.rlsf_blocks.proofs.Words.Apart.{used_free, free_in_memory, used_in_memory}
 use Rattle.rlsf_blocks.proofs.Words.Frames.{sides}
 use Rattle.rlsf_model.proofs.RangeLengths.{wide_whole}
+use Rattle.rlsf_model.proofs.Names.{moved, replanned}
 use Rattle.rlsf_blocks.proofs.Words.NeverOut.{here_free-in, here_released}
 use Rattle.rlsf_blocks.proofs.Words.Refilled.{Touched-joined, IsUsedStill, old_used, new_used, IsFreeStill, old_free, new_free, IsRefilled, StandsFor-refilled, KeepsSpare-refilled}
 
@@ -68,7 +70,8 @@ module _ {fllen sllen : ℕ} {m : Space} {t : Table} {s : State} (v : StandsFor 
       let base = IsSound-free v.well_formed in
       let right =
       right_of (end_of u.block) (without (ends_at u.block.start) s.free) (omega (arith, is.whole.start, is.whole.len)) (IsSound-without (ends_at u.block.start) s.free base) in
-      let begin : start_or u.block.start (find (ends_at u.block.start) s.free) ≡ f.start = ap (start_or u.block.start) found in
+      let begin : option_map_or (λ f. f.start) (find (ends_at u.block.start) s.free) u.block.start ≡ f.start =
+      ap (λ (o : Option Range). option_map_or (λ f. f.start) o u.block.start) found in
       let more = in_place-short s u size is.whole.len (omega (arith, IsUsed-after_start u is)) short in
       record {
         start = begin;

@@ -1,9 +1,10 @@
 -- The free blocks before a used one and behind it, as they are found in the list.
+use Rattle.std.specs.Option.{option_map_or}
 use Rattle.std.proofs.Common.{◌≡◌, ◌≢◌, ℕ, Bool, true, false, cond, List, [], ◌∷◌, ◌+◌, ◌≤◌, ◌<◌, Option, Some, None, find, arith, inl, inr, refl, sym, ◌∙◌, ap}
 use Rattle.std.proofs.lemmas.Bool.{eqb-true, ne_eqb}
 use Rattle.rlsf_base.specs.declared.memory.range.Range.{Range}
 use Rattle.rlsf_base.specs.Range.{end_of}
-use Rattle.rlsf_model.specs.Join.{ends_at, starts_at, start_or, end_or}
+use Rattle.rlsf_model.specs.Join.{ends_at, starts_at}
 use Rattle.rlsf_model.specs.Lists.{IsIn, without}
 use Rattle.rlsf_model.specs.State.{State}
 use Rattle.rlsf_model.specs.WellFormed.{IsWellFormed}
@@ -19,9 +20,9 @@ find-without p q (x ∷ xs) other = by_test (q x)
 
 module _ {fllen sllen : ℕ} {memory : Range} {s : State} (w : IsWellFormed fllen sllen memory s) where
   -- where the free range begins that ends at an address, or the address
-  module _ (b : ℕ) {start : ℕ} (is : start ≡ start_or b (find (ends_at b) s.free)) where
+  module _ (b : ℕ) {start : ℕ} (is : start ≡ option_map_or (λ f. f.start) (find (ends_at b) s.free) b) where
     abbrev Begun : Option Range → Type 0
-    Begun o = find (ends_at b) s.free ≡ o → start ≡ start_or b o → (start ≡ b → o ≡ None) × (start ≢ b → (f : Range) × (o ≡ Some f) × (f.start ≡ start))
+    Begun o = find (ends_at b) s.free ≡ o → start ≡ option_map_or (λ f. f.start) o b → (start ≡ b → o ≡ None) × (start ≢ b → (f : Range) × (o ≡ Some f) × (f.start ≡ start))
 
     begun : (o : Option Range) → Begun o
     begun None found at = ((λ same. refl), λ other. absurd (other at))
@@ -38,15 +39,15 @@ module _ {fllen sllen : ℕ} {memory : Range} {s : State} (w : IsWellFormed flle
     pub start_or-le : start ≤ b
     start_or-le = go (find (ends_at b) s.free) refl is
       where
-        go : (o : Option Range) → find (ends_at b) s.free ≡ o → start ≡ start_or b o → start ≤ b
+        go : (o : Option Range) → find (ends_at b) s.free ≡ o → start ≡ option_map_or (λ f. f.start) o b → start ≤ b
         go None found at = omega arith
         go (Some f) found at = let (i, passes) = find-some (ends_at b) f s.free found in omega (arith, eqb-true (end_of f) b passes, at)
 
   -- a free range behind an address ends in the memory
-  pub end_or-in_memory : (e : ℕ) → e + 32 ≤ end_of memory → end_or e (find (starts_at e) s.free) + 32 ≤ end_of memory
+  pub end_or-in_memory : (e : ℕ) → e + 32 ≤ end_of memory → option_map_or end_of (find (starts_at e) s.free) e + 32 ≤ end_of memory
   end_or-in_memory e inside = go (find (starts_at e) s.free) refl
     where
-      go : (o : Option Range) → find (starts_at e) s.free ≡ o → end_or e o + 32 ≤ end_of memory
+      go : (o : Option Range) → find (starts_at e) s.free ≡ o → option_map_or end_of o e + 32 ≤ end_of memory
       go None found = inside
       go (Some f) found = (free_in_memory w f (find-some (starts_at e) f s.free found).0).1
 

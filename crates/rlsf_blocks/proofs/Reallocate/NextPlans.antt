@@ -1,4 +1,5 @@
 -- Which plan a used block's new size has, where its own bytes and those of a free block behind it suffice.
+use Rattle.std.specs.Option.{option_or}
 use Rattle.std.proofs.Common.{◌≡◌, ◌≢◌, ℕ, ◌-◌, ◌<◌, ◌≤◌, cond, ◌++◌, Some, None, find, arith, ap}
 use mathlib.Core.Path.{ap₂}
 use Rattle.std.proofs.lemmas.Bool.{cases_lt, eqb-true, le-leb, lt-leb, le-ltb, lt-ltb}
@@ -7,12 +8,13 @@ use Rattle.rlsf_base.specs.Range.{end_of}
 use Rattle.rlsf_model.specs.Allocate.{rest_behind}
 use Rattle.rlsf_model.specs.Join.{join, ends_at}
 use Rattle.rlsf_model.specs.Lists.{IsIn}
-use Rattle.rlsf_model.specs.Reallocate.{Plan, resized, tail_joined, in_place, into_next, or_else}
+use Rattle.rlsf_model.specs.Reallocate.{Plan, in_place, into_next}
 use Rattle.rlsf_model.specs.State.{State, Used, between}
 use Rattle.rlsf_model.specs.WellFormed.{IsWellFormed}
 use Rattle.rlsf_model.proofs.Coverage.{without-none}
 use Rattle.rlsf_model.proofs.Payloads.{IsUsed-after_start}
 use Rattle.rlsf_model.proofs.Plans.{IsSoundPlan, IsSound-in_place, IsSound-into_next}
+use Rattle.rlsf_model.proofs.Names.{resized, tail_joined}
 use Rattle.rlsf_table.proofs.FreeLists.Found.{find-no}
 use Rattle.rlsf_blocks.proofs.Reallocate.Spans.{reach, staying}
 use Rattle.rlsf_blocks.proofs.Words.Apart.{used_free}
@@ -39,8 +41,8 @@ module _ (s : State) (u : Used) (size : ℕ) where
   into_next-none long = ap (λ b. cond b (Some (stretched s u size)) None) (lt-leb (end_of (resized u size)) (reach s u) long)
 
   -- neither suffices
-  pub no_plan : end_of u.block < end_of (resized u size) → reach s u < end_of (resized u size) → or_else (in_place s u size) (into_next s u size) ≡ None
-  no_plan longer longest = ap₂ or_else (in_place-none longer) (into_next-none longest)
+  pub no_plan : end_of u.block < end_of (resized u size) → reach s u < end_of (resized u size) → option_or (in_place s u size) (into_next s u size) ≡ None
+  no_plan longer longest = ap₂ option_or (in_place-none longer) (into_next-none longest)
 
   module _ {fllen sllen : ℕ} {memory : Range} (w : IsWellFormed fllen sllen memory s) (i : IsIn u s.used) where
     -- no free block ends where the tail begins: the used block is there
@@ -59,15 +61,15 @@ module _ (s : State) (u : Used) (size : ℕ) where
 
     -- the plan of another length
     pub or_else-stretched : end_of (resized u size) ≢ end_of u.block → end_of u.block ≤ reach s u → end_of (resized u size) ≤ reach s u
-        → or_else (in_place s u size) (into_next s u size) ≡ Some (stretched s u size)
+        → option_or (in_place s u size) (into_next s u size) ≡ Some (stretched s u size)
     or_else-stretched other order fits = grind (arith, cases_lt, in_place-fits, tail_joined-shorter, in_place-none, into_next-fits)
 
     pub IsSound-stretched : end_of (resized u size) ≤ reach s u → IsSoundPlan s u size (stretched s u size)
     IsSound-stretched fits = IsSound-into_next w u i size (stretched s u size) (into_next-fits fits)
 
     -- the plan of the same length
-    pub or_else-kept : end_of (resized u size) ≡ end_of u.block → or_else (in_place s u size) (into_next s u size) ≡ Some (kept_whole s u size)
-    or_else-kept same = ap (λ o. or_else o (into_next s u size)) (in_place-fits (omega arith))
+    pub or_else-kept : end_of (resized u size) ≡ end_of u.block → option_or (in_place s u size) (into_next s u size) ≡ Some (kept_whole s u size)
+    or_else-kept same = ap (λ o. option_or o (into_next s u size)) (in_place-fits (omega arith))
 
     pub IsSound-kept : end_of (resized u size) ≡ end_of u.block → IsSoundPlan s u size (kept_whole s u size)
     IsSound-kept same = IsSound-in_place w u i size (kept_whole s u size) (in_place-fits (omega arith))

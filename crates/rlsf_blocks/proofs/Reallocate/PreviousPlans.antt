@@ -1,5 +1,6 @@
 -- A used block moves into the free block before it: what is computed on the way is as the reference model's plan has it.
-use Rattle.std.proofs.Common.{◌≡◌, ℕ, ◌+◌, ◌-◌, ◌%◌, ◌^◌, ◌≤◌, ◌<◌, ◌⊎◌, List, None, length, arith, inr, sym, ◌∙◌, ap, subst}
+use Rattle.std.specs.Option.{option_map_or}
+use Rattle.std.proofs.Common.{◌≡◌, ℕ, ◌+◌, ◌-◌, ◌%◌, ◌^◌, ◌≤◌, ◌<◌, ◌⊎◌, List, None, length, arith, inr, sym, ◌∙◌, ap, subst, Option}
 use mathlib.Core.Path.{ap₂}
 use Rattle.rlsf_base.specs.declared.memory.range.Range.{Range}
 use Rattle.rlsf_base.specs.Range.{end_of, LiesIn, range_at}
@@ -7,9 +8,9 @@ use Rattle.rlsf_base.specs.Space.{Space, bytes_in, with_bytes, with_word, word_r
 use Rattle.rlsf_base.specs.OpenSpace.{IsHere, IsOwned, IsWritable, out_with}
 use Rattle.rlsf_base.proofs.Lending.Copied.{out_at-there}
 use Rattle.rlsf_base.proofs.Lending.Present.{own-here, own-inside}
-use Rattle.rlsf_model.specs.Join.{ends_at, start_or}
+use Rattle.rlsf_model.specs.Join.{ends_at}
 use Rattle.rlsf_model.specs.Lists.{IsIn, without}
-use Rattle.rlsf_model.specs.Payload.{block_length, payload_of}
+use Rattle.rlsf_model.specs.Payload.{payload_of}
 use Rattle.rlsf_model.specs.Reallocate.{in_place, into_previous}
 use Rattle.rlsf_model.specs.State.{State, Used, usable}
 use Rattle.rlsf_blocks.specs.StandsFor.{contents, StandsFor}
@@ -28,6 +29,7 @@ use Rattle.rlsf_blocks.proofs.Reallocate.Moves.{IsSpan, span, payload_here, payl
 use Rattle.rlsf_blocks.proofs.Reallocate.Neighbours.{start_or-le}
 use Rattle.rlsf_blocks.proofs.Reallocate.Previous.{into_previous-fits, payload_of-order, planned, reach}
 use Rattle.rlsf_blocks.proofs.Words.Apart.{usable_units}
+use Rattle.rlsf_model_sizes.specs.Rounding.{round32}
 
 -- the used block by its start and its end
 pub IsUsedBlock-from : {s : State} {u : Used} {block end payload align : ℕ} → IsUsedAt s u block payload align → end_of u.block ≡ end → IsUsedBlock s u block end align
@@ -57,8 +59,8 @@ module _ {fllen sllen : ℕ} {first m : Space} {t : Table} {s : State} {u : Used
   own : IsOwned m (usable u)
   own = own-here m (usable u) are.here
 
-  length_of : taken ≡ block_length are.plan.previous.start (payload_of are.plan.previous.start u.align) size
-  length_of = are.plan.long ∙ ap (λ p. block_length are.plan.previous.start p size) are.plan.placed
+  length_of : taken ≡ round32 (payload_of are.plan.previous.start u.align - are.plan.previous.start + size)
+  length_of = are.plan.long ∙ ap (λ p. round32 (p - are.plan.previous.start + size)) are.plan.placed
 
   fits : end_of (planned s u size are.plan.previous).block ≤ reach s u
   fits = omega (arith, are.plan.fits, length_of)
@@ -82,7 +84,7 @@ module _ {fllen sllen : ℕ} {first m : Space} {t : Table} {s : State} {u : Used
   behind = behind_at v u i are.used.start are.is_end are.more
 
   begins : start ≡ are.plan.previous.start
-  begins = before.begins ∙ ap (start_or u.block.start) are.plan.found
+  begins = before.begins ∙ ap (λ (o : Option Range). option_map_or (λ f. f.start) o u.block.start) are.plan.found
 
   inner : IsInnerRoom fllen sllen m2 t2 (untouched u.block s.free) (union u.block s.free)
   inner = IsInnerRoom-union v u i before behind own

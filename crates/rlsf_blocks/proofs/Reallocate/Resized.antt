@@ -9,7 +9,7 @@ use Rattle.rlsf_base.specs.Space.{Space, bytes_in, range_of, word_at, word_range
 use Rattle.rlsf_base.proofs.Lending.WordIsHere.{is_here-word, word_at-is}
 use Rattle.rlsf_model.specs.Allocate.{rest_behind}
 use Rattle.rlsf_model.specs.Lists.{IsIn}
-use Rattle.rlsf_model.specs.Reallocate.{resized, Keeps, moved, replanned}
+use Rattle.rlsf_model.specs.Reallocate.{Keeps}
 use Rattle.rlsf_model.specs.State.{State, Used, between, others}
 use Rattle.rlsf_model.specs.WellFormed.{IsWellFormed}
 use Rattle.rlsf_model.proofs.Changes.{IsIn-others}
@@ -30,6 +30,7 @@ use Rattle.rlsf_blocks.proofs.Reallocate.Spans.{free_apart, used_apart, span-som
 use Rattle.rlsf_blocks.proofs.Words.Apart.{used_free, used_in_memory}
 use Rattle.rlsf_blocks.proofs.Words.Frames.{sides}
 use Rattle.rlsf_model.proofs.RangeLengths.{wide_whole}
+use Rattle.rlsf_model.proofs.Names.{resized, moved, replanned}
 use Rattle.rlsf_blocks.proofs.Words.NeverOut.{own_but_front}
 use Rattle.rlsf_blocks.proofs.Words.Refilled.{Touched-joined, IsUsedStill, old_used, new_used, IsFreeStill, old_free, new_free, IsRefilled, StandsFor-refilled, KeepsSpare-refilled}
 

@@ -1,4 +1,5 @@
 -- A used block and the free block behind it, if there is one: the span of both.
+use Rattle.std.specs.Option.{option_map_or}
 use Rattle.std.proofs.Common.{◌≡◌, ℕ, ◌+◌, ◌<◌, ◌≤◌, ◌-◌, List, find, length, arith, inl, inr, refl}
 use Rattle.std.proofs.lemmas.Bool.{cases_lt}
 use Rattle.rlsf_base.specs.declared.memory.range.Range.{Range}
@@ -6,7 +7,7 @@ use Rattle.rlsf_base.specs.Range.{end_of, range_at}
 use Rattle.rlsf_base.specs.Space.{Space}
 use Rattle.rlsf_base.specs.OpenSpace.{IsOwned}
 use Rattle.rlsf_base.proofs.Lending.Present.{own-there}
-use Rattle.rlsf_model.specs.Join.{starts_at, end_or}
+use Rattle.rlsf_model.specs.Join.{starts_at}
 use Rattle.rlsf_model.specs.Lists.{IsIn, without}
 use Rattle.rlsf_model.specs.Release.{released}
 use Rattle.rlsf_model.specs.State.{State, Used, between, others}
@@ -26,7 +27,7 @@ use Rattle.rlsf_blocks.proofs.Words.NeverOut.{here_front, own_but_front}
 
 -- where the free block behind a used one ends, or where that ends itself
 abbrev pub reach : State → Used → ℕ
-reach s u = end_or (end_of u.block) (find (starts_at (end_of u.block)) s.free)
+reach s u = option_map_or end_of (find (starts_at (end_of u.block)) s.free) (end_of u.block)
 
 abbrev pub span_of : State → Used → Range
 span_of s u = between u.block.start (reach s u)

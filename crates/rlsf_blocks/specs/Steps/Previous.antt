@@ -1,12 +1,14 @@
 -- A used block can begin where the free block before it does.
-use Rattle.std.specs.Prelude.{◌≡◌, ℕ, ◌+◌, ◌≤◌, Option, None, Some, MatchOption, find}
+use Rattle.std.specs.Prelude.{◌≡◌, ℕ, ◌+◌, ◌≤◌, Option, None, Some, MatchOption, find, ◌-◌}
+use Rattle.std.specs.Option.{option_map_or}
 use Rattle.rlsf_base.specs.declared.memory.range.Range.{Range}
 use Rattle.rlsf_base.specs.Range.{end_of}
-use Rattle.rlsf_model.specs.Join.{ends_at, starts_at, end_or}
+use Rattle.rlsf_model.specs.Join.{ends_at, starts_at}
 use Rattle.rlsf_model.specs.Lists.{IsIn, without}
-use Rattle.rlsf_model.specs.Payload.{block_length, payload_of}
+use Rattle.rlsf_model.specs.Payload.{payload_of}
 use Rattle.rlsf_model.specs.Reallocate.{into_previous}
 use Rattle.rlsf_model.specs.State.{State, Used}
+use Rattle.rlsf_model_sizes.specs.Rounding.{round32}
 
 -- a used block of the state goes from `block` to `end`, and its payload has that alignment
 pub record IsUsedBlock (s : State) (u : Used) (block end align : ℕ) : Type 0 where
@@ -21,8 +23,8 @@ pub record FitsBefore (s : State) (u : Used) (size payload taken : ℕ) : Type 0
   pub previous : Range
   pub found : find (ends_at u.block.start) s.free ≡ Some previous
   pub placed : payload ≡ payload_of previous.start u.align
-  pub long : taken ≡ block_length previous.start payload size
-  pub fits : previous.start + taken ≤ end_or (end_of u.block) (find (starts_at (end_of u.block)) (without (ends_at u.block.start) s.free))
+  pub long : taken ≡ round32 (payload - previous.start + size)
+  pub fits : previous.start + taken ≤ option_map_or end_of (find (starts_at (end_of u.block)) (without (ends_at u.block.start) s.free)) (end_of u.block)
 
 -- where the payload would lie then, and how many bytes its block would take, if they suffice
 abbrev pub IsPlaceBefore : State → Used → ℕ → Option (ℕ × ℕ) → Type 0

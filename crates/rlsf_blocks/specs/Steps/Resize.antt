@@ -1,18 +1,20 @@
 -- A used block gets another size, in place or at another place.
 use Rattle.std.specs.Prelude.{◌≡◌, ◌≢◌, ℕ, ◌+◌, ◌-◌, ◌<◌, ◌≤◌, List, ◌∷◌, ◌++◌, length, Option, None, Some, IfSome, MatchOption, find}
 use Rattle.std.specs.Int.{next_multiple_of}
+use Rattle.std.specs.Option.{option_map_or}
 use Rattle.rlsf_base.specs.declared.memory.layout.Layout.{Layout}
 use Rattle.rlsf_base.specs.declared.memory.range.Range.{Range}
 use Rattle.rlsf_base.specs.Range.{end_of, range_at, LiesIn}
 use Rattle.rlsf_base.specs.OpenSpace.{IsHere, IsOwned}
 use Rattle.rlsf_base.specs.Space.{Space, bytes_in, word_at}
 use Rattle.rlsf_model.specs.Allocate.{Allocates, rest_behind}
-use Rattle.rlsf_model.specs.Join.{end_or, starts_at}
+use Rattle.rlsf_model.specs.Join.{starts_at}
 use Rattle.rlsf_model.specs.Lists.{IsIn}
 use Rattle.rlsf_model.specs.NoMove.{unmoved_plan}
-use Rattle.rlsf_model.specs.Reallocate.{MovesAway, Plan, ReallocatesBy, Replans, in_place, into_previous, plan, resized}
+use Rattle.rlsf_model.specs.Reallocate.{MovesAway, Plan, ReallocatesBy, Replans, in_place, into_previous, plan}
 use Rattle.rlsf_model.specs.State.{State, Used, between, usable}
 use Rattle.rlsf_model.specs.WellFormed.{coverage, itself, IsFree}
+use Rattle.rlsf_model.specs.Payload.{block_for}
 use Rattle.rlsf_blocks.specs.Spare.{KeepsSpare}
 use Rattle.rlsf_blocks.specs.StandsFor.{Contents, contents, StandsFor}
 use Rattle.rlsf_blocks.specs.Steps.Standing.{StepsTo}
@@ -78,7 +80,7 @@ HasMovingHere fllen sllen m t block payload layout = (s : State) × (u : Used) �
 
 -- the bytes of the free range at the address, or 0 if none begins there
 abbrev pub IsFreeLength : List Range → ℕ → ℕ → Type 0
-IsFreeLength free block len = block + len ≡ end_or block (find (starts_at block) free)
+IsFreeLength free block len = block + len ≡ option_map_or end_of (find (starts_at block) free) block
 
 -- A range is no block's, and no block of a list has an address of it. A used block of its first `taken` bytes can be made, and a free block of
 -- the others: the first 16 bytes, the others, and the first words of another block behind them are the memory's own. What is between may be out
@@ -101,11 +103,11 @@ AtEachSpanRoom fllen sllen m t block len taken P =
 
 -- the bytes of a used block that are behind its end once its payload has so many bytes are the memory's own
 abbrev pub IsOwnedBehind : Space → Used → ℕ → Type 0
-IsOwnedBehind m u size = IsOwned m (between (end_of (resized u size)) (end_of u.block))
+IsOwnedBehind m u size = IsOwned m (between (end_of (block_for u.block.start u.payload size)) (end_of u.block))
 
 -- the block of a used payload of that size reaches no farther than its own block and a free block behind it
 abbrev pub HasRoomBehind : State → Used → ℕ → Type 0
-HasRoomBehind s u size = end_of (resized u size) ≤ end_or (end_of u.block) (find (starts_at (end_of u.block)) s.free)
+HasRoomBehind s u size = end_of (block_for u.block.start u.payload size) ≤ option_map_or end_of (find (starts_at (end_of u.block)) s.free) (end_of u.block)
 
 -- this is true of the used block at `block` in each state that memory and table represent, where it has that room, and what is behind its end of that size
 -- is the memory's own

@@ -1,13 +1,13 @@
 //! A payload moves into the free block before its own.
 
-ghost use Rattle.std.specs.Prelude.{◌≡◌, ◌≢◌, ◌+◌, ◌-◌, ◌≤◌, ℕ, None, find, IfNone, IfSome, []};
+ghost use Rattle.std.specs.Prelude.{◌≡◌, ◌≢◌, ◌+◌, ◌-◌, ◌≤◌, ℕ, None, IfNone, IfSome, []};
 ghost use Rattle.rlsf_model_sizes.specs.SizeClass.{IsValid};
 ghost use Rattle.rlsf_base.specs.OpenSpace.{SameOwn, StaysHere};
-ghost use Rattle.rlsf_model.specs.Join.{ends_at, start_or};
 ghost use Rattle.rlsf_model.specs.Lists.{IsIn};
 ghost use Rattle.rlsf_model.specs.Reallocate.{into_previous};
 ghost use Rattle.rlsf_model.specs.State.{State, Used, usable};
 ghost use Rattle.rlsf_blocks.specs.StandsFor.{contents, StandsFor};
+ghost use Rattle.rlsf_blocks.specs.Steps.Join.{previous_start};
 ghost use Rattle.rlsf_blocks.specs.Steps.Standing.{AtEachUsed};
 ghost use Rattle.rlsf_table.specs.Counts.{Costs, Counts};
 ghost use Rattle.rlsf_blocks.specs.Steps.Previous.{IsUsedBlock, IsPlaceBefore};
@@ -26,8 +26,8 @@ use rlsf_table::{ClassTable, PAD, PREVIOUS_BLOCK, is_free, used_end};
 fn start_before(memory: &mut OpenMemory, view: View, block: usize) -> Option<usize>
     requires used { (fllen : ℕ) × (sllen : ℕ) × (t : Table) × (s : State) × (u : Used) × StandsFor fllen sllen (contents memory.old t) s × IsIn u s.used × (u.block.start ≡ block) }
     requires view { view ≡ memory.old.view }
-    ensures start { (fllen sllen : ℕ) (t : Table) → AtEachUsed fllen sllen memory.old t block (λ s u. IfSome result (λ a. (a ≡ start_or block (find (ends_at block) s.free)) × (a ≢ block))) }
-    ensures none { (fllen sllen : ℕ) (t : Table) → AtEachUsed fllen sllen memory.old t block (λ s u. IfNone result (block ≡ start_or block (find (ends_at block) s.free))) }
+    ensures start { (fllen sllen : ℕ) (t : Table) → AtEachUsed fllen sllen memory.old t block (λ s u. IfSome result (λ a. (a ≡ previous_start block s.free) × (a ≢ block))) }
+    ensures none { (fllen sllen : ℕ) (t : Table) → AtEachUsed fllen sllen memory.old t block (λ s u. IfNone result (block ≡ previous_start block s.free)) }
     ensures counts { Counts memory.old memory.new 2 }
 {
     let previous = memory.load_at(view, block + PREVIOUS_BLOCK) as usize;

@@ -36,7 +36,7 @@ pub record AreCheckedPools (s : State) (pools : PoolList) : Type 0 where
   pub behind : (p : Range) → IsIn p pools.earlier → end_of p ≤ pools.last.start
   pub homes : (c : Range) → IsIn c s.chunks → (p : Range) × IsOneOf p pools × (p.start ≤ c.start) × (end_of c ≤ end_of p)
 
--- Memory and class table represent the state. A mark is that of the payload's alignment exactly if a payload is live, and else 0. Each
+-- The state is well-formed in the memory. A mark is that of the payload's alignment exactly if a payload is live, and else 0. Each
 -- address at which a payload may be has a mark, and none is 0. The last pool lies in the memory, and no chunk is outside of the pools.
 pub record IsChecked (fllen sllen : ℕ) (heap : Allocator) (marks : Codes ℕ) (list : PoolList) : Type 0 where
   pub stands : Stands fllen sllen heap

@@ -1,5 +1,7 @@
 -- What the parts of a growth leave.
 use Rattle.std.specs.Prelude.{◌≡◌, ℕ, ◌+◌, ◌≤◌, Bool, true, List, Option, Some, None}
+use Rattle.std.specs.Bool.{then_some}
+use Rattle.std.specs.Option.{option_map, option_to_list}
 use Rattle.rlsf_base.specs.declared.memory.range.Range.{Range}
 use Rattle.rlsf_base.specs.Space.{SamePlace}
 use Rattle.rlsf_blocks.specs.Spare.{KeepsSpare}
@@ -11,7 +13,7 @@ use Rattle.rlsf_flex.specs.StandsFor.{FlexContents, FlexStandsFor}
 use Rattle.rlsf_model.specs.Answers.{MayAnswer, MayAnswerAll}
 use Rattle.rlsf_model.specs.Callers.{align_at, bytes_at}
 use Rattle.rlsf_model.specs.FlexState.{FlexState, KeptPool}
-use Rattle.rlsf_model.specs.Growth.{Extends, Outcome, TakesIn, range_came, growth_came, growth_note, growth_question, is_more, range_length, range_note, refused}
+use Rattle.rlsf_model.specs.Growth.{Extends, Outcome, TakesIn, range_came, growth_came, is_more, range_length, refused}
 use Rattle.rlsf_model.specs.Note.{Note, LeadsBy, alloc, grow}
 use Rattle.rlsf_model.specs.Reallocate.{MovesAway}
 use Rattle.rlsf_model.specs.Sized.{IsSizedFor, live_count}
@@ -73,14 +75,14 @@ pub record Took {S : Type 0} (fllen sllen : ℕ) (terms : S → Terms) (owes : S
 module _ {S : Type 0} (fllen sllen : ℕ) (terms : S → Terms) (owes : S → List Range → Type 0) (leads : S → Note → S → Type 0) (before after : FlexContents S) where
   -- a range was asked for, if there is a question, and what came was taken in
   pub record AskedRange (e : ℕ) (answer : Option Range) : Type 0 where
-    pub notes : LeadsBy leads before.source (range_note (range_length (terms before.source) e) answer) after.source
+    pub notes : LeadsBy leads before.source (option_to_list (option_map (λ n. alloc n answer) (range_length (terms before.source) e))) after.source
     pub asked : range_length (terms before.source) e ≡ None → answer ≡ None
     pub took : Took fllen sllen terms owes before after e (outcome_of_range answer)
 
   -- growth to n bytes was asked for, if there is a question, and what came was taken in
   pub record AskedGrowth (k : KeptPool) (n e : ℕ) (answer : Option ℕ) : Type 0 where
-    pub notes : LeadsBy leads before.source (growth_note (growth_question (terms before.source) k n) answer) after.source
-    pub asked : growth_question (terms before.source) k n ≡ None → answer ≡ None
+    pub notes : LeadsBy leads before.source (option_to_list (option_map (λ (g : Range × ℕ). grow g.0 g.1 answer) (then_some (terms before.source).grow (k.range, n)))) after.source
+    pub asked : then_some {T = Range × ℕ} (terms before.source).grow (k.range, n) ≡ None → answer ≡ None
     pub took : Took fllen sllen terms owes before after e (outcome_of_growth answer)
 
   -- the source was asked for e bytes more

@@ -5,11 +5,12 @@ use Rattle.std.proofs.lemmas.Bool.{and_parts, eqb-true}
 use Rattle.rlsf_base.specs.declared.memory.range.Range.{Range}
 use Rattle.rlsf_base.specs.Range.{end_of, range_at}
 use Rattle.rlsf_model.specs.NoMove.{ReallocatesUnmovedBy, ReallocatesWithoutMove, unmoved_plan}
-use Rattle.rlsf_model.specs.Reallocate.{Plan, replanned}
+use Rattle.rlsf_model.specs.Reallocate.{Plan}
 use Rattle.rlsf_model.specs.Run.{Event, insert, allocate, deallocate, Runs}
 use Rattle.rlsf_model.specs.State.{State, Used, empty}
 use Rattle.rlsf_model.proofs.Coverage.{find-some}
 use Rattle.rlsf_model.proofs.Examples.{Block, block, seen, at, refilled, replans_step, all_after, all_events, may_call_all, Runs-all}
+use Rattle.rlsf_model.proofs.Names.{replanned}
 
 -- a payload at an address that is to have a size in place, with the reply, and the used blocks and the free ranges after it, the newest first
 pub record Resized : Type 0 where

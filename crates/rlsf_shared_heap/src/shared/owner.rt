@@ -4,8 +4,8 @@ ghost use Rattle.rlsf_base.specs.Layout.{IsLayout};
 ghost use Rattle.rlsf_model.specs.Allocate.{Allocates};
 ghost use Rattle.rlsf_model.specs.Reallocate.{Reallocates};
 ghost use Rattle.rlsf_model.specs.Release.{Deallocates};
-ghost use Rattle.rlsf_heap.specs.Heap.{addr_of, IsWritten};
-ghost use Rattle.rlsf_heap.specs.Reallocation.{moved_to, owned_by};
+ghost use Rattle.rlsf_model.specs.State.{filled};
+ghost use Rattle.rlsf_heap.specs.Heap.{addr_of, IsWritten, moved_to};
 ghost use Rattle.rlsf_heap.specs.Replies.{IsAllocatedZeroed, IsDeallocated, IsRefused, IsResizedOrMoved, WithinBounds};
 ghost use Rattle.rlsf_shared_heap.specs.Owners.{IsCollected, IsServed, KeepsOwner, LeavesLent, LendsNew, Serves, ServesLent};
 
@@ -240,7 +240,7 @@ impl<
         requires identity { payload.identity ≡ self.old.heap.identity }
         requires written { IsWritten payload }
         ensures step { Steps FLLEN SLLEN self.new.heap (λ t. IsLayout size payload.align
-            → Reallocates SLLEN (owned_by self.old.heap.state payload) payload.start size (moved_to result) t) }
+            → Reallocates SLLEN (filled self.old.heap.state payload.start payload.bytes) payload.start size (moved_to result) t) }
         ensures result { IfOk result (λ p. IsResizedOrMoved self.old.heap self.new.heap payload.start size payload.align payload p) }
         ensures room { WithinBounds SLLEN self.old.heap.state size payload.align (IsLayout size payload.align → IsOk result) }
         ensures bounds { KeepsSized SLLEN self.old.heap.state self.new.heap.state size payload.align }

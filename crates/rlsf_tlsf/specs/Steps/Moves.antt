@@ -1,12 +1,12 @@
 -- Where the reference model's calls lead, except for the bytes of payloads.
-use Rattle.std.specs.Prelude.{ℕ, [], map, find, ◌==◌, Option, Some, None}
+use Rattle.std.specs.Prelude.{ℕ, [], ◌∷◌, map, find, ◌==◌, Option, Some, None}
 use Rattle.rlsf_base.specs.declared.memory.range.Range.{Range}
 use Rattle.rlsf_model_sizes.specs.Sizes.{max_pool_size, request_size}
 use Rattle.rlsf_model.specs.Allocate.{choice, given, placed}
 use Rattle.rlsf_model.specs.Insert.{aligned_part, appended, cut, with_chunks}
-use Rattle.rlsf_model.specs.Reallocate.{Plan, plan, replanned}
+use Rattle.rlsf_model.specs.Reallocate.{Plan, plan}
 use Rattle.rlsf_model.specs.Release.{released}
-use Rattle.rlsf_model.specs.State.{State, Used}
+use Rattle.rlsf_model.specs.State.{State, Used, others}
 
 -- a used block without its bytes
 abbrev pub bare_used : Used → Used
@@ -49,7 +49,8 @@ deallocated addr s = released_if s (used_at addr s)
 -- the state once the used block got another size by a plan, or elsewhere
 abbrev pub moved_by : ℕ → State → Used → ℕ → Option Plan → State
 moved_by sllen s u size None = released (allocated sllen size u.align s) u
-moved_by sllen s u size (Some p) = replanned s u p []
+moved_by sllen s u size (Some p) =
+    record { chunks = s.chunks; used = record { block = p.block; payload = p.payload; align = u.align; bytes = [] } ∷ others u.payload s.used; free = p.free }
 
 -- the state once the used block that was found, if any, got another size
 abbrev pub moved_if : ℕ → State → ℕ → Option Used → State

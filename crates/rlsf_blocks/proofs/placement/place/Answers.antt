@@ -2,8 +2,9 @@ use Rattle.std.proofs.Common.{◌≡◌, ◌+◌, ◌-◌, ◌^◌, ◌<◌, ◌
 use Rattle.rlsf_blocks.proofs.Words.NeverOut.{free_word}
 use Rattle.rlsf_base.specs.declared.memory.range.Range.{Range}
 use Rattle.rlsf_model_sizes.specs.Sizes.{request_size}
+use Rattle.rlsf_model_sizes.specs.Rounding.{round32}
 use Rattle.rlsf_model.specs.Allocate.{choice}
-use Rattle.rlsf_model.specs.Payload.{block_length, payload_of}
+use Rattle.rlsf_model.specs.Payload.{payload_of}
 use Rattle.rlsf_model.specs.State.{State}
 use Rattle.rlsf_table.proofs.FreeLists.Counted.{word_at-counted}
 use Rattle.rlsf_table.proofs.Words.Writes.{Writes-none}
@@ -38,7 +39,7 @@ front-payload-requires g c =
     record {
       whole = omega (arith, fit.whole, start);
       address = subst (λ b. payload_of b layout.align < 2 ^ 64) start address;
-      length = subst (λ b. block_length b (payload_of b layout.align) layout.size < 2 ^ 64) start (omega (arith, fits, place.1, v.well_formed.addressable));
+      length = subst (λ b. round32 (payload_of b layout.align - b + layout.size) < 2 ^ 64) start (omega (arith, fits, place.1, v.well_formed.addressable));
     }
 
 -- the memory whose word was read represents the same states

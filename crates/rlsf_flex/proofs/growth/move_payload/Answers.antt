@@ -1,3 +1,4 @@
+use Rattle.std.specs.Prelude.{take, drop, ◌++◌}
 use Rattle.std.proofs.Common.{◌≡◌, ◌≢◌, ◌≤◌, ◌<◌, ◌+◌, ℕ, None, Some, arith, length, refl, sym, ◌∙◌, ap, subst}
 use Rattle.std.proofs.lemmas.Option.{none-some}
 use Rattle.rlsf_base.specs.Addr.{at}
@@ -5,14 +6,14 @@ use Rattle.rlsf_model.specs.Callers.{align_at, bytes_at}
 use Rattle.rlsf_model.specs.Reallocate.{Keeps}
 use Rattle.rlsf_model.specs.Run.{Fills}
 use Rattle.rlsf_model.specs.Sized.{live_count}
-use Rattle.rlsf_model.specs.State.{State, with_front}
+use Rattle.rlsf_model.specs.State.{State}
 use Rattle.rlsf_model.proofs.CallerWords.{align_at-live, bytes_at-held}
 use Rattle.rlsf_tlsf.specs.Allocator.{IsInState}
 use Rattle.rlsf_tlsf.proofs.Standing.{in_state}
 use Rattle.rlsf_flex.specs.Steps.Growth.{MovesPayload}
 use Rattle.rlsf_flex.proofs.Moves.{new, Fills-copied, Holds-new, Holds-old, Keeps-front, KeepsSpare-copied, MovesAway-copied, length-front}
 use Rattle.rlsf_flex.proofs.Places.{SamePlace-then}
-use Rattle.rlsf_flex.proofs.InnerAllocator.{opened, opened_whole, stood_at}
+use Rattle.rlsf_flex.proofs.InnerAllocator.{opened, stood_at}
 use Rattle.rlsf_flex.proofs.growth.move_payload.Given as given
 use Rattle.rlsf_flex.proofs.growth.move_payload.Goals as goal
 use Rattle.rlsf_flex.proofs.growth.move_payload.Goals.{After-deallocate, In_ok-to}
@@ -48,7 +49,8 @@ stays g c = c.in_ok-to.ensures.result.bytes (at c.args.addr) (off g c)
 -- the new payload's bytes are the old one's, and then its own
 moved : (g : given.Over) (c : After-deallocate g)
     → (bytes_at c.deallocate.new.self.state (at c.in_ok-to.to)
-    ≡ with_front c.allocation_usable_size-len.result (bytes_at c.args.tlsf.now.state (at c.args.addr)) (bytes_at c.allocate.new.self.state (at c.in_ok-to.to)))
+    ≡ (take c.allocation_usable_size-len.result (bytes_at c.args.tlsf.now.state (at c.args.addr))
+    ++ drop c.allocation_usable_size-len.result (bytes_at c.allocate.new.self.state (at c.in_ok-to.to))))
     × (length (bytes_at c.args.tlsf.now.state (at c.args.addr)) ≡ c.allocation_usable_size-len.result)
     × (c.allocation_usable_size-len.result ≤ length (bytes_at c.allocate.new.self.state (at c.in_ok-to.to)))
 moved g c =
@@ -56,7 +58,7 @@ moved g c =
     let len = c.allocation_usable_size-len.ensures in
     let old = stays g here in (
       c.deallocate.ensures.result.bytes _ (off_from g here) ∙ c.copy_payload.ensures.result.filled
-          ∙ ap (λ l. with_front c.allocation_usable_size-len.result l (bytes_at c.allocate.new.self.state (at c.in_ok-to.to))) old,
+          ∙ ap (λ l. (take c.allocation_usable_size-len.result l ++ drop c.allocation_usable_size-len.result (bytes_at c.allocate.new.self.state (at c.in_ok-to.to)))) old,
       sym (ap length old) ∙ sym len,
       omega (arith, len, ap length old, c.requires.short, c.in_ok-to.ensures.result.sized),
     )
@@ -86,19 +88,19 @@ moves g c =
     let (fills, stands_copied, spare_copied) = opened _ _ _ c.copy_payload.ensures.step in
     let (gone, last, spare_last) = opened _ _ _ c.deallocate.ensures.step in
     let now : IsInState g.row.FLLEN g.row.SLLEN c.allocate.new.self c.allocate.new.self.state =
-    record { state = refl; stands = stands; whole = opened_whole _ _ _ _ _ c.in_ok-to.ensures.step } in
+    record { state = refl; stands = stands } in
     let old = Holds-old v addr u holds size align to is short step now in
     let there = Holds-new v addr u holds size align to is short step now in
     let t = c.allocate.new.self.state in
     let r = c.copy_payload.new.self.state in
     let len = c.allocation_usable_size-len.ensures ∙ ap length (bytes_at-held stands.well_formed addr u old) ∙ (stands.well_formed.used u old.0).bytes in
-    let filled = subst (λ n. Fills t to (with_front n u.bytes step.bytes) r) len
+    let filled = subst (λ n. Fills t to (take n u.bytes ++ drop n step.bytes) r) len
     (Fills-copied stands.well_formed addr to c.allocation_usable_size-len.result u (new v addr u holds size align to is short step now) old there fills) in
     record {
       block = u;
       holds = holds;
       moves = MovesAway-copied v addr u holds size align to is short step now c.copy_payload.new.self c.deallocate.new.self r c.deallocate.new.self.state filled gone;
-      stands = stood_at last (opened_whole _ _ _ _ _ c.deallocate.ensures.step);
+      stands = stood_at _ last;
       spare =
           KeepsSpare-copied v addr u holds size align to is short step now c.copy_payload.new.self c.deallocate.new.self r c.deallocate.new.self.state filled gone
           c.in_ok-to.ensures.frame.place c.copy_payload.ensures.frame.place spare spare_copied spare_last;

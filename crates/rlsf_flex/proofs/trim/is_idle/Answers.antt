@@ -11,7 +11,7 @@ returns-then-is_occupied g c =
     let b : Block = c.in-Some.block in
     let i = subst (IsIn b) (sym c.in-Some.ensures.steps) (inl refl) in (
       λ never. absurd (false≢true never),
-      λ idle. absurd (occupied_held (stood c.requires.stands).well_formed (walked c.args.row) c.iter_blocks-blocks.result c.iter_blocks-blocks.ensures.blocks b
+      λ idle. absurd (occupied_held (stood _ c.requires.stands).well_formed (walked c.args.row) c.iter_blocks-blocks.result c.iter_blocks-blocks.ensures.blocks b
           (c.loop-block.invariant.2 b i) (sym c.is_occupied.ensures ∙ c.if-is_occupied.true) idle),
     )
 
@@ -28,7 +28,7 @@ loop-block-preserved g c = (
 
 pub returns : goal.returns
 returns g c = (
-  λ always. none_occupied (stood c.requires.stands).well_formed (walked c.args.row) c.iter_blocks-blocks.result c.iter_blocks-blocks.ensures.blocks c.requires.row
+  λ always. none_occupied (stood _ c.requires.stands).well_formed (walked c.args.row) c.iter_blocks-blocks.result c.iter_blocks-blocks.ensures.blocks c.requires.row
       (λ b i occupied. subst (IsIn b) c.in_default.ensures.steps.0 (c.loop-block.invariant.3 b i occupied)),
   λ idle. refl,
 )

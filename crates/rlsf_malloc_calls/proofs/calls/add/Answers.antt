@@ -52,7 +52,7 @@ module _ (g : given.Over) (c : After-or_zero-number g) where
   takes = let can = c.requires.1 in let did = c.insert_free_block_ptr.ensures in record {
     is = can.bytes.range;
     lends = c.lend_loan.ensures.lent;
-    kept = kept_heap did.frame.heap did.frame.bytes (c.lend_loan.ensures.lent.settled c.requires.0);
+    kept = kept_heap did.frame.heap did.frame.settled (c.lend_loan.ensures.lent.settled c.requires.0);
     lies = can.lies;
     clear = can.untouched;
     others = c.lend_loan.ensures.others;

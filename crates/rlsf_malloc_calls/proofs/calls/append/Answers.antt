@@ -57,7 +57,7 @@ module _ (g : given.Over) (c : After-append_free_block_ptr-number g) where
   takes = let can = c.requires.1 in let made = c.append_free_block_ptr-number.ensures in let old = c.args.heap.now in record {
     is = can.bytes.range;
     lends = c.lend_loan.ensures.lent;
-    kept = kept_heap made.frame.heap made.frame.bytes (c.lend_loan.ensures.lent.settled c.requires.0);
+    kept = kept_heap made.frame.heap made.frame.settled (c.lend_loan.ensures.lent.settled c.requires.0);
     lies = can.next.fresh.lies_in;
     clear = untouched_next (range_of old.memory) old.state r can.next;
     others = c.lend_loan.ensures.others;

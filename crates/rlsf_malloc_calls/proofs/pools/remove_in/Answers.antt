@@ -25,7 +25,7 @@ untouched_whole start len s before rest a low high = elim (cases_lt a (round32 s
 pub reclaim_loan-requires : goal.reclaim_loan-requires
 reclaim_loan-requires g c =
     let can = c.requires.1 in let did = c.try_remove_pool.ensures in let yes = c.if-try_remove_pool.true in let last = c.try_remove_pool.new.self in
-    let range = range_at c.args.start c.args.len in let kept = kept_heap did.frame.heap did.frame.bytes c.requires.0 in (
+    let range = range_at c.args.start c.args.len in let kept = kept_heap did.frame.heap did.frame.settled c.requires.0 in (
       search rules,
       (
         subst (λ (m : ℕ × ℕ). LiesIn range m.0 m.1) (λ i. (sym kept.start i, sym kept.len i)) can.lies,
@@ -40,7 +40,7 @@ pub returns-then-try_remove_pool : goal.returns-then-try_remove_pool
 returns-then-try_remove_pool g c =
     let old = c.args.heap.now in let last = c.try_remove_pool.new.self in let new = c.reclaim_loan.new.self in let did = c.try_remove_pool.ensures in
     let back = c.reclaim_loan.ensures.reclaimed in
-    let kept = kept_heap did.frame.heap did.frame.bytes c.requires.0 in
+    let kept = kept_heap did.frame.heap did.frame.settled c.requires.0 in
     let same = back.heap.state in
     let changed = range_at c.args.start c.args.len in let range = walked changed in
     record {
@@ -66,7 +66,7 @@ returns-else-try_remove_pool g c =
     let changed = range_at c.args.start c.args.len in
     record {
       removes = kept_pool g.row.FLLEN g.row.SLLEN old new changed (walked changed) c.try_remove_pool.result c.if-try_remove_pool.false
-          (same_beside changed (kept_heap did.frame.heap did.frame.bytes c.requires.0)) did.step did.refused did.frame.aligns did.frame.count did.untouched;
+          (same_beside changed (kept_heap did.frame.heap did.frame.settled c.requires.0)) did.step did.refused did.frame.aligns did.frame.count did.untouched;
       given = λ some. absurd (some refl);
       none = λ zero. c.requires.1.nothing;
     }

@@ -3,8 +3,8 @@ use Rattle.std.specs.Int.{next_multiple_of}
 use Rattle.rlsf_base.specs.Range.{end_of}
 use Rattle.rlsf_base.specs.Space.{word_at}
 use Rattle.rlsf_base.proofs.Lending.Present.{owned-same}
-use Rattle.rlsf_model.specs.Reallocate.{resized}
 use Rattle.rlsf_model.proofs.Payloads.{IsUsed-after_start}
+use Rattle.rlsf_model.proofs.Names.{resized}
 use Rattle.rlsf_model.specs.State.{State, Used, between}
 use Rattle.rlsf_blocks.specs.StandsFor.{contents, StandsFor}
 use Rattle.rlsf_blocks.specs.Steps.Resize.{HasRoomBehind, IsUsedAt}

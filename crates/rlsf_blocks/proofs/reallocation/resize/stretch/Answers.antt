@@ -1,7 +1,6 @@
 use Rattle.std.proofs.Common.{◌≡◌, ◌≢◌, ◌+◌, ◌≤◌, arith, rules, sym, subst, refl}
 use mathlib.Core.Path.{ap₂}
 use Rattle.rlsf_base.specs.Range.{end_of, range_at}
-use Rattle.rlsf_model.specs.Reallocate.{resized}
 use Rattle.rlsf_model.specs.State.{State, Used}
 use Rattle.rlsf_blocks.specs.StandsFor.{contents, StandsFor}
 use Rattle.rlsf_blocks.specs.Steps.Join.{IsMarked, IsNextOut}
@@ -17,6 +16,7 @@ use Rattle.rlsf_blocks.proofs.Words.Stays.{Stays-rewrites, Stays-then}
 use Rattle.rlsf_blocks.proofs.reallocation.resize.stretch.Given as given
 use Rattle.rlsf_blocks.proofs.reallocation.resize.stretch.Goals as goal
 use Rattle.rlsf_blocks.proofs.reallocation.resize.stretch.Goals.{Start, After-take_if_free-next}
+use Rattle.rlsf_model.proofs.Names.{resized}
 
 -- the free block behind it
 marked : (g : given.Over) (c : Start g) {s : State} (v : StandsFor g.row.FLLEN g.row.SLLEN (contents c.args.memory.now c.args.table.now) s) (u : Used)

@@ -22,7 +22,7 @@ long g c = ap (λ (l : List ℕ). length l) c.fill_all.ensures ∙ length-replic
 pub invariant_of-self : goal.invariant_of-self
 invariant_of-self g c =
     let w = c.fill_all.new.bytes in
-    let (chunks, place, stands, touches, copied) = c.payload_mut.ensures.rest w in
+    let (chunks, place, stands, touches, copied, spare) = c.payload_mut.ensures.rest w in
     unchanged c.self.invariant (written c.self.inside.heap (at c.args.addr) (length c.payload_mut.result.now) w) stands place chunks (c.payload_mut.ensures.aligns w)
 
 pub returns-in_default : goal.returns-in_default
@@ -39,7 +39,7 @@ returns g c =
     let addr = at c.args.addr in
     let k = (goal.at.returns g c).After-fill_all in
     let w = c.fill_all.new.bytes in
-    let (chunks, place, stands, touches, copied) = did.rest w in
+    let (chunks, place, stands, touches, copied, spare) = did.rest w in
     let grow : heap.memory.touches ≤ (written heap addr (length c.payload_mut.result.now) w).memory.touches = omega (arith, touches) in
     rw (← c.self.view_is) (record {
       step =

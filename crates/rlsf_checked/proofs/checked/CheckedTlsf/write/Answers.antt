@@ -21,7 +21,7 @@ over g c = c.write_at.ensures.bytes ∙ ap (λ l. splice l c.args.offset (c.args
 pub invariant_of-self : goal.invariant_of-self
 invariant_of-self g c =
     let w = c.write_at.new.payload in
-    let (chunks, place, stands, touches, copied) = c.payload_mut.ensures.rest w in
+    let (chunks, place, stands, touches, copied, spare) = c.payload_mut.ensures.rest w in
     unchanged c.self.invariant (written c.self.inside.heap (at c.args.addr) (length c.payload_mut.result.now) w) stands place chunks (c.payload_mut.ensures.aligns w)
 
 -- whether they fit
@@ -55,7 +55,7 @@ returns g c =
     let heap = c.self.inside.heap in
     let addr = at c.args.addr in
     let w = c.write_at.new.payload in
-    let (chunks, place, stands, touches, copied) = did.rest w in
+    let (chunks, place, stands, touches, copied, spare) = did.rest w in
     let is = over g (goal.at.returns g c).After-write_at in
     let grow : heap.memory.touches ≤ (written heap addr (length c.payload_mut.result.now) w).memory.touches = omega (arith, touches) in
     rw (← c.self.view_is) (record {

@@ -20,7 +20,7 @@ returns g c =
       room =
           let (step, stands, spare) = opened _ _ _ is.step in
           sized_behind g.FLBitmap.BitPattern.width g.SLBitmap.BitPattern.width g.row.FLLEN g.row.SLLEN (range_of c.self.inside.parts.tlsf.memory)
-          c.self.inside.parts.tlsf.state c.deallocate_unknown_align.new.self.state c.self.invariant.valid c.self.invariant.stands.machine.well_formed (at c.args.addr) step;
+          c.self.inside.parts.tlsf.state c.deallocate_unknown_align.new.self.state c.self.invariant.valid c.self.invariant.stands.well_formed.machine (at c.args.addr) step;
       bounds = is.bounds;
       frame = record { source = refl; chunks = is.frame.chunks; place = is.frame.place; grow = is.frame.grow; copied = is.frame.copied };
       touches = is.touches;

@@ -26,7 +26,7 @@ pub invariant_of-result : goal.invariant_of-result
 invariant_of-result g c = record {
   valid = c.requires.valid;
   stands = stands g (goal.at.invariant_of-result g c).After-new-2;
-  whole = (in_state g.row.FLLEN g.row.SLLEN c.new.result c.new.ensures.stands).whole;
+  whole = (in_state g.row.FLLEN g.row.SLLEN c.new.result c.new.ensures.stands).stands.whole;
 }
 
 pub returns : goal.returns

@@ -1,20 +1,20 @@
+use Rattle.std.specs.Prelude.{None}
 use Rattle.std.proofs.Common.{◌≡◌, Some, length, arith, refl, sym, ◌∙◌, ap}
 use Rattle.rlsf_base.specs.Addr.{at}
 use Rattle.rlsf_flex.specs.StandsFor.{flex_contents}
 use Rattle.rlsf_flex.specs.Steps.Parts.{flex_over}
 use Rattle.rlsf_model.specs.Callers.{align_at, bytes_at}
-use Rattle.rlsf_model.specs.FlexReallocate.{IsStuck}
 use Rattle.rlsf_model.specs.FlexState.{FlexState}
-use Rattle.rlsf_model.specs.Reallocate.{HasRoomToResize, HasRoomToStay}
-use Rattle.rlsf_model.specs.State.{Used, usable}
+use Rattle.rlsf_model.specs.Reallocate.{HasRoomToResize, HasRoomToStay, plan}
+use Rattle.rlsf_model.specs.State.{Used, usable, Holds}
 use Rattle.rlsf_model.proofs.CallerWords.{align_at-live, bytes_at-held}
 use Rattle.rlsf_table.proofs.Parameters.{IsValid-widest}
 use Rattle.rlsf_tlsf.specs.Allocator.{Allocator}
 use Rattle.rlsf_flex.proofs.Allocations.{Tried, extended_none, more_is_found, never_within, none_of, not_none, nothing_asked, nothing_more}
-use Rattle.rlsf_flex.proofs.Reallocations.{IsReallocated-before, no_room_to_move, reallocated_in_room, reallocated_stands, reallocation_in_more}
+use Rattle.rlsf_flex.proofs.Reallocations.{IsStuck, IsReallocated-before, no_room_to_move, reallocated_in_room, reallocated_stands, reallocation_in_more}
 use Rattle.rlsf_flex.proofs.Reallocations.{refused_move_alone, refused_too, stuck_moves, stuck_short}
 use Rattle.rlsf_flex.proofs.Places.{SamePlace-then}
-use Rattle.rlsf_flex.proofs.InnerAllocator.{flex_opened, stood_at}
+use Rattle.rlsf_flex.proofs.InnerAllocator.{flex_opened, inner_stands, stood_at}
 use Rattle.rlsf_tlsf.proofs.Replied.{some_more}
 use Rattle.rlsf_flex.proofs.flex.FlexTlsf.reallocate.Given as given
 use Rattle.rlsf_flex.proofs.flex.FlexTlsf.reallocate.Goals as goal
@@ -45,7 +45,8 @@ returns-in-Some g c =
     })
 
 -- the first try found no room
-tried : (g : given.Over) (c : In_default g) → (u : Used) × IsStuck c.self.inside.parts.tlsf.state (at c.args.addr) c.args.layout.size u × (u.align ≡ c.args.layout.align)
+tried : (g : given.Over) (c : In_default g) → (u : Used)
+    × IsStuck c.self.inside.parts.tlsf.state (at c.args.addr) c.args.layout.size u × (u.align ≡ c.args.layout.align)
     × Tried g.row.FLLEN g.row.SLLEN g.S.FlexSource.terms g.S.FlexSource.owes c.args.layout.size c.args.layout.align
     (flex_over c.self.inside.parts) (flex_contents c.reallocate.new.self c.self.inside.parts.kept c.self.inside.parts.source c.self.inside.parts.owed.ranges)
 tried g c =
@@ -57,13 +58,13 @@ tried g c =
 refused_in : (g : given.Over) (c : In_default g) → HasRoomToResize g.row.SLLEN c.self.inside.parts.tlsf.state (at c.args.addr) c.args.layout.size → ⊥
 refused_in g c (to, m, some) =
     let (u, stuck, is, first) = tried g c in
-    refused_move_alone c.self.invariant.stands.machine.well_formed (at c.args.addr) c.args.layout.size c.args.layout.align to u m stuck is first.full some
+    refused_move_alone c.self.invariant.stands.well_formed.machine (at c.args.addr) c.args.layout.size c.args.layout.align to u m stuck is first.full some
 
 -- nor would it stay, or take from the block behind
 moves_in : (g : given.Over) (c : In_default g) → HasRoomToStay c.self.inside.parts.tlsf.state (at c.args.addr) c.args.layout.size → ⊥
 moves_in g c (u, p, holds, some) =
     let (v, stuck, is, first) = tried g c in
-    stuck_moves c.self.invariant.stands.machine.well_formed (at c.args.addr) c.args.layout.size u v p stuck holds some
+    stuck_moves c.self.invariant.stands.well_formed.machine (at c.args.addr) c.args.layout.size u v p stuck holds some
 
 pub invariant_of-self-in_err-wanted : goal.invariant_of-self-in_err-wanted
 invariant_of-self-in_err-wanted g c =
@@ -109,13 +110,13 @@ move_payload-requires g c =
     let came = c.extend.ensures.payloads in
     let aligns = came.aligns ∙ ap (λ (s : FlexState). align_at s.machine) first.same in
     let bytes = came.bytes ∙ ap (λ (s : FlexState). bytes_at s.machine) first.same in
-    let well_formed = c.self.invariant.stands.machine.well_formed in
+    let well_formed = c.self.invariant.stands.well_formed.machine in
     let live = rw (← c.self.view_is) at c.requires in
     let len : length (bytes_at c.extend.new.self.tlsf.state addr) ≡ (usable u).len =
     (λ i. length (bytes i addr)) ∙ ap length (bytes_at-held well_formed addr u stuck.holds) ∙ (well_formed.used u stuck.holds.0).bytes in (
       omega arith,
       (
-        stood_at c.if-extend.ensures.step.stands.machine (came.place.3 (c.reallocate.ensures.frame.place.3 c.self.invariant.whole)),
+        stood_at _ (inner_stands c.if-extend.ensures.step.stands (came.place.3 (c.reallocate.ensures.frame.place.3 c.self.invariant.whole))),
         ((λ i. aligns i addr) ∙ live, omega (arith, len, stuck_short well_formed addr c.args.layout.size u stuck)),
       ),
     )

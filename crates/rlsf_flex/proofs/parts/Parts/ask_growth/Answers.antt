@@ -6,12 +6,13 @@ use Rattle.rlsf_flex.specs.Steps.Footing.{IsFooted}
 use Rattle.rlsf_flex.specs.StandsFor.{kept_pool}
 use Rattle.rlsf_flex.specs.Steps.Growth.{HasSamePayloads}
 use Rattle.rlsf_flex.specs.Steps.Parts.{flex_over}
-use Rattle.rlsf_model.specs.Growth.{behind, longer}
+use Rattle.rlsf_model.specs.Growth.{longer}
 use Rattle.rlsf_model.specs.Insert.{Appends, IsNext}
 use Rattle.rlsf_model.specs.Lists.{IsIn}
 use Rattle.rlsf_model.specs.Note.{grow}
 use Rattle.rlsf_model.specs.Terms.{Terms, with_len}
 use Rattle.rlsf_model.proofs.TakenPools.{pool_size_is}
+use Rattle.rlsf_model.proofs.Names.{behind}
 use Rattle.rlsf_tlsf.proofs.Standing.{of_state, stepped}
 use Rattle.rlsf_flex.proofs.Asks.{AskedGrowth-asked, AskedGrowth-none}
 use Rattle.rlsf_flex.proofs.Calls.{stays_in}
@@ -73,7 +74,7 @@ pub write_footer-requires : goal.write_footer-requires
 write_footer-requires g c =
     let now = with_len c.args.pool.range c.in_ok-grown.grown in
     let (ends, footer) =
-    Grew-footers c.requires.valid (grew g (goal.at.write_footer-requires g c).In_ok-grown) c.args.self.now.tlsf.memory c.requires.stands.machine.well_formed
+    Grew-footers c.requires.valid (grew g (goal.at.write_footer-requires g c).In_ok-grown) c.args.self.now.tlsf.memory c.requires.stands.well_formed.machine
     (SamePlace-refl c.args.self.now.tlsf.memory) now (inl refl) in
     (omega arith, (ends, (footer, c.requires.whole)))
 

@@ -1,4 +1,4 @@
-use Rattle.std.proofs.Common.{◌≡◌, ℕ, arith, Option, Some, None, sym, ap, ◌∙◌, refl}
+use Rattle.std.proofs.Common.{◌≡◌, ℕ, arith, Option, Some, None, sym, ap, ◌∙◌, refl, ◌||◌}
 use Rattle.std.specs.Bool.{then_some}
 use Rattle.std.specs.Int.NonZero.{non_zero_usize_get}
 use Rattle.std.specs.Option.{MatchOption, option_map}
@@ -10,7 +10,6 @@ use Rattle.rlsf_tlsf.specs.Allocator.{IsInState}
 use Rattle.rlsf_flex.specs.StandsFor.{kept_of, kept_pool}
 use Rattle.rlsf_flex.specs.Steps.Growth.{HasSamePayloads}
 use Rattle.rlsf_flex.specs.Steps.Parts.{flex_over}
-use Rattle.rlsf_model.specs.Growth.{keeps}
 use Rattle.rlsf_model.specs.Insert.{Inserts}
 use Rattle.rlsf_model.proofs.Untouched.{parts_of-IsFresh}
 use Rattle.rlsf_model.specs.Note.{alloc}
@@ -25,7 +24,7 @@ use Rattle.rlsf_flex.proofs.Kept.{kept_of-then_some}
 use Rattle.rlsf_flex.proofs.KeptPayloads.{HasSamePayloads-refl, HasSamePayloads-same, HasSamePayloads-trans}
 use Rattle.rlsf_flex.proofs.RangeLengths.{range_length-whole}
 use Rattle.rlsf_flex.proofs.Rewritten.{IsFooted-named}
-use Rattle.rlsf_flex.proofs.InnerAllocator.{opened, opened_whole, stood_at}
+use Rattle.rlsf_flex.proofs.InnerAllocator.{opened, stood_at}
 use Rattle.rlsf_flex.proofs.parts.Parts.ask_range.Given as given
 use Rattle.rlsf_flex.proofs.parts.Parts.ask_range.Goals as goal
 use Rattle.rlsf_flex.proofs.parts.Parts.ask_range.Goals.{In_ok-range, After-insert_free_block_ptr}
@@ -57,7 +56,7 @@ taken : (g : given.Over) (c : After-insert_free_block_ptr g)
     × IsInState g.row.FLLEN g.row.SLLEN c.insert_free_block_ptr.new.self c.insert_free_block_ptr.new.self.state
     × KeepsSpare c.args.self.now.tlsf.memory c.args.self.now.tlsf.state c.insert_free_block_ptr.new.self.memory c.insert_free_block_ptr.new.self.state
 taken g c = let (step, stands, spare) = opened _ _ _ c.insert_free_block_ptr.ensures.step in
-    (step, record { state = refl; stands = stands; whole = opened_whole _ _ _ _ _ c.insert_free_block_ptr.ensures.step }, spare)
+    (step, record { state = refl; stands = stands }, spare)
 
 pub write_footer_if-requires : goal.write_footer_if-requires
 write_footer_if-requires g c =
@@ -65,7 +64,7 @@ write_footer_if-requires g c =
     let (step, stands, spare) = taken g (goal.at.write_footer_if-requires g c).After-insert_free_block_ptr in
     let place = c.insert_free_block_ptr.ensures.frame.place in
     let (ends, footer) = Came-footer c.requires.valid is_came c.insert_free_block_ptr.new.self.memory c.insert_free_block_ptr.new.self.state _ step place in
-    (omega arith, (ends, (footer, (place.3 c.requires.whole, stood_at stands.stands stands.whole))))
+    (omega arith, (ends, (footer, (place.3 c.requires.whole, stood_at _ stands.stands))))
 
 -- how many bytes were taken
 taken_is : (o : Option NonZeroUsize) (taken n : ℕ) → MatchOption o (taken ≡ 0) (λ x. taken ≡ non_zero_usize_get x)
@@ -113,8 +112,8 @@ returns g c = record {
       c.insert_free_block_ptr.ensures.frame.place
       (stays_in stands d wrote.state wrote.stands) footed
       (λ n is. ap kept_of c.then_some-self.ensures ∙ kept_of-then_some c.keeps_pool.result (record { range = r; len = c.len_of-taken.result })
-      ∙ ap (λ k. then_some k (kept_pool (record { range = r; len = c.len_of-taken.result }))) (c.keeps_pool.ensures ∙ ap keeps same)
-      ∙ ap (λ m. then_some (keeps t) (record { range = r; len = m })) (taken_is c.insert_free_block_ptr.result c.len_of-taken.result n c.len_of-taken.ensures is))));
+      ∙ ap (λ k. then_some k (kept_pool (record { range = r; len = c.len_of-taken.result }))) (c.keeps_pool.ensures ∙ ap (λ (x : Terms). x.dealloc || x.grow) same)
+      ∙ ap (λ m. then_some (t.dealloc || t.grow) (record { range = r; len = m })) (taken_is c.insert_free_block_ptr.result c.len_of-taken.result n c.len_of-taken.ensures is))));
   payloads =
       let did = c.insert_free_block_ptr.ensures in
       let wrote = c.write_footer_if.ensures in

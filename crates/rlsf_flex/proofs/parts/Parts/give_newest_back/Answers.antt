@@ -7,14 +7,14 @@ use Rattle.rlsf_model.specs.FlexWellFormed.{IsNewest, IsPool}
 use Rattle.rlsf_model.specs.Trim.{IsNewestHeld}
 use Rattle.rlsf_flex.specs.StandsFor.{kept_of}
 use Rattle.rlsf_flex.proofs.NewestRange.{gave_newest, newest_ends, newest_first, newest_footers, newest_held, newest_pool, newest_words, next_pool, others, others_start}
-use Rattle.rlsf_flex.proofs.InnerAllocator.{opened, opened_whole, stood_at}
+use Rattle.rlsf_flex.proofs.InnerAllocator.{inner_stands, opened, stood_at}
 use Rattle.rlsf_flex.proofs.TrimmedRanges.{LeavesPayloads-refl}
 use Rattle.rlsf_flex.proofs.parts.Parts.give_newest_back.Given as given
 use Rattle.rlsf_flex.proofs.parts.Parts.give_newest_back.Goals as goal
 use Rattle.rlsf_flex.proofs.parts.Parts.give_newest_back.Goals.{After-drop_newest}
 
 pub is_idle-requires : goal.is_idle-requires
-is_idle-requires g c = (omega arith, (stood_at c.requires.stands.machine c.requires.whole, (newest_pool c.requires.stands c.in-Some.is).row))
+is_idle-requires g c = (omega arith, (stood_at _ (inner_stands c.requires.stands c.requires.whole), (newest_pool c.requires.stands c.in-Some.is).row))
 
 pub range_before-before-requires-clause-range : goal.range_before-before-requires-clause-range
 range_before-before-requires-clause-range g c = newest_ends c.requires.stands c.in-Some.is
@@ -48,7 +48,7 @@ pool_of-next-requires g c =
     let b = c.remove_pool.new.self in (
       omega arith,
       (
-        stood_at stands (opened_whole _ _ _ _ _ c.remove_pool.ensures.step),
+        stood_at _ stands,
         subst (λ o. IfSome o (λ r. HasRoomForChunk r × ((len : ℕ) × IsPool b.state r len))) (sym (before_is g (goal.at.pool_of-next-requires g c).After-drop_newest))
             (next_pool c.requires.stands c.in-Some.is idle b step),
       ),

@@ -4,7 +4,7 @@ use Rattle.std.proofs.Common.{Some, Ok, Err, lit<, ap, ◌∙◌, sym, refl, ari
 use Rattle.std.proofs.lemmas.Bool.{not-false, not-true}
 use Rattle.rlsf_base.specs.Addr.{at}
 use Rattle.rlsf_global.specs.Locked.{heap_of}
-use Rattle.rlsf_global.proofs.Checks.{same_align}
+use Rattle.rlsf_model_global.proofs.Histories.{is_same-align}
 use Rattle.rlsf_global.proofs.Lives.{has_row, known, unknown}
 use Rattle.rlsf_global.proofs.Places.{listed}
 use Rattle.rlsf_global.proofs.Placements.{live_row, released, released_locked}
@@ -29,7 +29,7 @@ pub deallocate-requires : goal.deallocate-requires
 deallocate-requires g c = (
   lit< tt,
   live_row c.self.inside.flex c.self.inside.rows.rows c.self.invariant.locked (at c.args.addr) c.in-Some.row (sym c.in-Some.ensures.row)
-      ∙ ap Some (same_align c.in-Some.row.1 c.args.layout (not-false _ (sym c.if-ne.ensures)) ∙ sym c.align.ensures.value),
+      ∙ ap Some (is_same-align c.in-Some.row.1 c.args.layout (not-false _ (sym c.if-ne.ensures)) ∙ sym c.align.ensures.value),
 )
 
 pub invariant_of-self-2 : goal.invariant_of-self-2

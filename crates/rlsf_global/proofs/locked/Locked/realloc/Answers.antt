@@ -5,7 +5,8 @@ use Rattle.rlsf_global.proofs.Layouts.{content_at-bytes, layout_at-moved_left, l
 use Rattle.rlsf_base.specs.Addr.{at}
 use Rattle.rlsf_global.specs.LiveRows.{looked}
 use Rattle.rlsf_global.specs.Locked.{heap_of, locked_contents}
-use Rattle.rlsf_global.proofs.Checks.{same_align, same_size}
+use Rattle.rlsf_model_global.proofs.Histories.{is_same-align}
+use Rattle.rlsf_model_global.proofs.Moved.{is_same-size}
 use Rattle.rlsf_global.proofs.MovedPayloads.{moved_locked, moved_row}
 use Rattle.rlsf_global.proofs.Kept.{kept_asked, kept_usable}
 use Rattle.rlsf_global.proofs.Lives.{has_row, known, unknown}
@@ -33,9 +34,9 @@ resize-requires g c =
     let same = not-false _ (sym c.if-ne.ensures) in
     let live =
     live_row c.self.inside.flex c.self.inside.rows.rows c.self.invariant.locked (at c.args.addr) c.in-Some.row row
-    ∙ ap Some (same_align c.in-Some.row.1 c.args.layout same) in
+    ∙ ap Some (is_same-align c.in-Some.row.1 c.args.layout same) in
     let sized =
-    subst (λ n. n ≤ length (bytes_at c.self.inside.flex.state.machine (at c.args.addr))) (same_size c.in-Some.row.1 c.args.layout same)
+    subst (λ n. n ≤ length (bytes_at c.self.inside.flex.state.machine (at c.args.addr))) (is_same-size c.in-Some.row.1 c.args.layout same)
     (row_sized c.self.inside.flex c.self.inside.rows.rows c.self.invariant.locked (at c.args.addr) c.in-Some.row row) in
     (lit< tt, (live, (sized, (c.from_size_align_unchecked-wanted.ensures.1 ∙ c.align.ensures.value, c.self.invariant.locked.flex))))
 
@@ -79,12 +80,8 @@ did_step : (g : given.Over) (c : After-move_row g)
 did_step g c =
     let wanted = c.from_size_align_unchecked-wanted in
     let rows = rw c.row_of.ensures.table at c.move_row.ensures.rows in
-    rw (← c.in-Some.ensures.row, not-false _ (sym c.if-ne.ensures)) (record {
-      layout = wanted.result;
-      size = wanted.ensures.0;
-      align = wanted.ensures.1 ∙ c.align.ensures.value;
-      made = rw rows (c.in-Some-resize.ensures.step c.self.inside.rows.rows);
-    })
+    rw (← c.in-Some.ensures.row, not-false _ (sym c.if-ne.ensures))
+    (wanted.result, wanted.ensures.0, wanted.ensures.1 ∙ c.align.ensures.value, rw rows (c.in-Some-resize.ensures.step c.self.inside.rows.rows))
 
 pub returns : goal.returns
 returns g c =
@@ -99,7 +96,7 @@ returns g c =
     let contents = locked_contents c.self.inside.flex c.self.inside.rows in
     let row = sym c.in-Some.ensures.row in
     let sized =
-    subst (λ n. n ≤ length (bytes_at c.self.inside.flex.state.machine (at c.args.addr))) (same_size c.in-Some.row.1 c.args.layout (not-false _ (sym c.if-ne.ensures)))
+    subst (λ n. n ≤ length (bytes_at c.self.inside.flex.state.machine (at c.args.addr))) (is_same-size c.in-Some.row.1 c.args.layout (not-false _ (sym c.if-ne.ensures)))
     (row_sized c.self.inside.flex c.self.inside.rows.rows c.self.invariant.locked (at c.args.addr) c.in-Some.row row) in
     rw (← c.self.view_is) (record {
       step = step;
@@ -162,12 +159,9 @@ returns-in_default-resize g c =
     let wanted = c.from_size_align_unchecked-wanted in
     let stays = c.in_default-resize.ensures.refused in
     rw (← c.self.view_is, c.row_of.ensures.table) (record {
-      step = rw (← c.in-Some.ensures.row, not-false _ (sym c.if-ne.ensures)) (record {
-        layout = wanted.result;
-        size = wanted.ensures.0;
-        align = wanted.ensures.1 ∙ c.align.ensures.value;
-        made = c.in_default-resize.ensures.none c.self.inside.rows.rows;
-      });
+      step =
+          rw (← c.in-Some.ensures.row, not-false _ (sym c.if-ne.ensures))
+          (wanted.result, wanted.ensures.0, wanted.ensures.1 ∙ c.align.ensures.value, c.in_default-resize.ensures.none c.self.inside.rows.rows);
       result = tt;
       unknown = known c.self.inside.flex c.self.inside.rows.rows (at c.args.addr) _ (sym c.in-Some.ensures.row) (Err NoRoom) refl;
       refused = record { same = same_heap c.self.inside.flex c.resize.new.flex c.self.inside.rows.rows stays.state stays.source; bytes = stays.bytes };

@@ -6,7 +6,7 @@ use Rattle.rlsf_global.proofs.Layouts.{content_at-bytes, layout_at-moved_other, 
 use Rattle.rlsf_base.specs.Addr.{at}
 use Rattle.rlsf_global.specs.LiveRows.{looked}
 use Rattle.rlsf_global.specs.Locked.{heap_of, locked_contents}
-use Rattle.rlsf_global.proofs.Checks.{same_align}
+use Rattle.rlsf_model_global.proofs.Histories.{is_same-align}
 use Rattle.rlsf_global.proofs.Kept.{kept_there}
 use Rattle.rlsf_global.proofs.Lives.{has_row, known, unknown}
 use Rattle.rlsf_global.proofs.Places.{listed}
@@ -38,7 +38,7 @@ invariant_of-self-then-ne g c = rw c.row_of.ensures.table (record { locked = c.s
 pub reallocate_no_move-requires : goal.reallocate_no_move-requires
 reallocate_no_move-requires g c =
     let row = sym c.in-Some.ensures.row in
-    let aligned = same_align c.in-Some.row.1 c.args.layout (not-false _ (sym c.if-ne.ensures)) ∙ sym (c.from_size_align_unchecked-wanted.ensures.1 ∙ c.align.ensures.value) in
+    let aligned = is_same-align c.in-Some.row.1 c.args.layout (not-false _ (sym c.if-ne.ensures)) ∙ sym (c.from_size_align_unchecked-wanted.ensures.1 ∙ c.align.ensures.value) in
     (lit< tt, live_row c.self.inside.flex c.self.inside.rows.rows c.self.invariant.locked (at c.args.addr) c.in-Some.row row ∙ ap Some aligned)
 
 pub invariant_of-self-in_default-reallocate_no_move : goal.invariant_of-self-in_default-reallocate_no_move
@@ -76,14 +76,13 @@ did_step : (g : given.Over) (c : After-replace g)
 did_step g c =
     let did = c.in-Some-reallocate_no_move.ensures in
     let wanted = c.from_size_align_unchecked-wanted in
-    rw (← c.in-Some.ensures.row, not-false _ (sym c.if-ne.ensures)) (record {
-      layout = wanted.result;
-      size = wanted.ensures.0;
-      align = wanted.ensures.1 ∙ c.align.ensures.value;
-      made =
-          resized c.self.inside.flex c.self.inside.rows.rows c.self.invariant.locked c.reallocate_no_move.new.self (at c.args.addr) wanted.result did.frame.source
-          c.in-Some-reallocate_no_move.to did.result.there did.step _ (replaced g c);
-    })
+    rw (← c.in-Some.ensures.row, not-false _ (sym c.if-ne.ensures)) (
+      wanted.result,
+      wanted.ensures.0,
+      wanted.ensures.1 ∙ c.align.ensures.value,
+      resized c.self.inside.flex c.self.inside.rows.rows c.self.invariant.locked c.reallocate_no_move.new.self (at c.args.addr) wanted.result did.frame.source
+          c.in-Some-reallocate_no_move.to did.result.there did.step _ (replaced g c),
+    )
 
 pub returns : goal.returns
 returns g c =
@@ -148,14 +147,13 @@ returns-in_default-reallocate_no_move g c =
     let wanted = c.from_size_align_unchecked-wanted in
     let same = same_heap c.self.inside.flex c.reallocate_no_move.new.self c.self.inside.rows.rows did.refused.same did.frame.source in
     rw (← c.self.view_is, c.row_of.ensures.table) (record {
-      step = rw (← c.in-Some.ensures.row, not-false _ (sym c.if-ne.ensures)) (record {
-        layout = wanted.result;
-        size = wanted.ensures.0;
-        align = wanted.ensures.1 ∙ c.align.ensures.value;
-        made =
-            not_resized c.self.inside.flex c.self.inside.rows.rows c.self.invariant.locked c.reallocate_no_move.new.self (at c.args.addr) wanted.result did.frame.source
-            did.step did.refused.same;
-      });
+      step = rw (← c.in-Some.ensures.row, not-false _ (sym c.if-ne.ensures)) (
+        wanted.result,
+        wanted.ensures.0,
+        wanted.ensures.1 ∙ c.align.ensures.value,
+        not_resized c.self.inside.flex c.self.inside.rows.rows c.self.invariant.locked c.reallocate_no_move.new.self (at c.args.addr) wanted.result did.frame.source
+            did.step did.refused.same,
+      );
       result = tt;
       unknown = known c.self.inside.flex c.self.inside.rows.rows (at c.args.addr) _ (sym c.in-Some.ensures.row) (Err NoRoom) refl;
       refused = record { same = same; bytes = did.refused.bytes };

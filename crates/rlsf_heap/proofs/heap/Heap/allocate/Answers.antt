@@ -108,7 +108,7 @@ returns-in-Some g c =
     let made : IsAllocated s t size align q.start = subst (IsAllocated s t size align) at p.made in
     let long : length q.bytes ≡ length (bytes_at t q.start) = over.long ∙ p.long ∙ ap (λ a. length (bytes_at t a)) at in
     rw (← c.self.view_is) (rw (arrived (stands g c) c.allocate_in.new.state.state (sym (bare-core e.left.core))) (record {
-      step = (subst (λ a. Allocates g.row.SLLEN s size align (Some a) t) at e.step, stands g c);
+      step = (subst (λ a. Allocates g.row.SLLEN s size align (Some a) t) at e.step, (stands g c).well_formed);
       result = record {
         identity = over.identity ∙ same_identity m n costs.start costs.length costs.view c.self.inside.ledger.name c.self.inside.ledger.name refl;
         live = made.live;
@@ -140,10 +140,8 @@ returns-in-Some g c =
               (kept_own g (goal.at.returns-in-Some g c).After-hand_over-payload);
           grow = omega (arith, costs.grow, over.counts.0);
         };
-        bytes = record {
-          raw = λ a from is. raw-stays (stays e.left) a from (raw-left n o r over.memory.start p.lies.0 over.memory.out a (omega (arith, from, costs.start)) is);
-          settled = λ settled. settled-left n o r over.memory.start p.lies.0 over.memory.out (settled-stays (stays e.left) settled);
-        };
+        raw = λ a from is. raw-stays (stays e.left) a from (raw-left n o r over.memory.start p.lies.0 over.memory.out a (omega (arith, from, costs.start)) is);
+        settled = λ settled. settled-left n o r over.memory.start p.lies.0 over.memory.out (settled-stays (stays e.left) settled);
         chunks = ap (λ (x : State). x.chunks) e.step.after;
         copied = omega (arith, costs.copied, over.counts.1);
       };

@@ -75,7 +75,7 @@ returns g c =
     let s = read_from n c.self.inside.state.state in
     let chunks = ap (λ (s : State). s.chunks) (same_state c.self.invariant (r g d) (clear g d) (changed g d)) in
     rw (← c.self.view_is) (record {
-      stands = stands_lent c.self.invariant (r g d) (clear g d) (changed g d);
+      stands = (stands_lent c.self.invariant (r g d) (clear g d) (changed g d)).well_formed;
       lent = record {
         heap = record {
           identity = same_identity m n e.memory.start e.back.len e.memory.view ledger ledger refl;

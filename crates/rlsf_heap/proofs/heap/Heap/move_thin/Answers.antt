@@ -103,15 +103,16 @@ returns g c =
     let thin = c.into_thin.ensures.1 in
     let w = c.copy_front.new.to in
     let is = there g c in
+    let whole : IsWritten c.into_thin.result.of = subst (λ (o : PayloadView). IsWritten o) (sym thin) ((c.as_mut_slice.ensures.left w).written) in
     record {
       step = move_step g.row.FLLEN g.row.SLLEN c.args.self.now c.find_part-part.new.self c.allocate.new.self c.put_written.new.self heap c.args.layout.size
           c.args.layout.align c.args.addr c.into_thin_bytes.result.piece.start c.in-Some.to.start (from g c) a.step p.step c.into_thin.result.of.start is;
       result = record {
         at = c.into_thin.ensures.0 ∙ ap (λ (o : PayloadView). o.start) (sym thin);
         of = record {
-          identity = ap (λ (o : PayloadView). o.identity) thin ∙ (c.as_mut_slice.ensures.left w).identity ∙ a.result.identity ∙ ap (λ (v : HeapView). v.identity) heap;
-          requested = ap (λ (o : PayloadView). o.align) thin ∙ (c.as_mut_slice.ensures.left w).align ∙ a.result.requested;
-          made = record {
+          resized = record {
+            identity = ap (λ (o : PayloadView). o.identity) thin ∙ (c.as_mut_slice.ensures.left w).identity ∙ a.result.identity ∙ ap (λ (v : HeapView). v.identity) heap;
+            requested = ap (λ (o : PayloadView). o.align) thin ∙ (c.as_mut_slice.ensures.left w).align ∙ a.result.requested;
             live = ap (align_at c.put_written.new.self.state) is ∙ p.result.aligns c.in-Some.to.start (λ e. other g c (e ∙ from g c)) ∙ a.result.live;
             long = as_long g c ∙ a.result.long ∙ ap length (sym (others_stay g.row.FLLEN g.row.SLLEN c.args.self.now c.find_part-part.new.self c.allocate.new.self
                 c.put_written.new.self heap c.args.layout.size c.args.layout.align c.args.addr c.into_thin_bytes.result.piece.start c.in-Some.to.start (from g c) a.step
@@ -122,8 +123,11 @@ returns g c =
             few = subst (λ n. n < c.args.layout.size + 32) (sym (as_long g c)) a.result.few;
             kept = kept g c;
             each = Keeps-each c.args.payload.of.bytes c.into_thin.result.of.bytes (kept g c);
+            here = λ i from high. whole i from (omega (arith, high));
+            shrunk = λ _. whole;
+            written = λ _. whole;
           };
-          written = subst (λ (o : PayloadView). IsWritten o) (sym thin) ((c.as_mut_slice.ensures.left w).written);
+          written = whole;
           apart = λ e. other g c (sym is ∙ e);
           gone = subst (λ n. align_at c.put_written.new.self.state n ≡ None) (from g c) p.result.gone;
           others = record {

@@ -61,10 +61,8 @@ returns g c =
       bounds = bounds_given is b f.left at f.step;
       frame = record {
         heap = keeps_given is b f.left at f.step c.self.inside.ledger.name c.redeem.new.self.name c.redeem.ensures.name;
-        bytes = record {
-          raw = λ a from here. raw_back is (pay g d) (back g d) a from (raw-stays (stays f.left) a (omega (arith, from, e.memory.start)) here);
-          settled = λ settled. settled-stays (stays f.left) (settled_before is (pay g d) (back g d) settled);
-        };
+        raw = λ a from here. raw_back is (pay g d) (back g d) a from (raw-stays (stays f.left) a (omega (arith, from, e.memory.start)) here);
+        settled = λ settled. settled-stays (stays f.left) (settled_before is (pay g d) (back g d) settled);
         chunks = chunks_given is b f.left at f.step;
         copied = omega (arith, e.counts.1, f.left.costs.copied);
       };

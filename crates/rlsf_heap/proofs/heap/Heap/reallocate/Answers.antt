@@ -5,7 +5,7 @@ use Rattle.rlsf_base.specs.Range.{range_at}
 use Rattle.rlsf_model_sizes.specs.Rounding.{round32}
 use Rattle.rlsf_model.specs.Callers.{align_at, bytes_at}
 use Rattle.rlsf_model.specs.Reallocate.{Reallocates}
-use Rattle.rlsf_model.specs.State.{State}
+use Rattle.rlsf_model.specs.State.{State, filled}
 use Rattle.rlsf_blocks.specs.Laws.{read_from}
 use Rattle.rlsf_tlsf.specs.Allocator.{allocator}
 use Rattle.rlsf_tlsf.specs.Bounds.{KeepsBounds}
@@ -14,9 +14,8 @@ use Rattle.rlsf_tlsf.specs.Moving.{IsRelocated, span}
 use Rattle.rlsf_tlsf.specs.Results.{KeepsFrameMoving as CoreFrame}
 use Rattle.rlsf_tlsf.proofs.Relocated.{end_relocated}
 use Rattle.rlsf_heap.specs.Heap.{HeapView, Steps}
-use Rattle.rlsf_heap.specs.Reallocation.{owned_by}
 use Rattle.rlsf_heap.proofs.OnCores.{Steps-arrived, bare-kept}
-use Rattle.rlsf_heap.proofs.Kept.{bytes_same, heap_same, refused_same}
+use Rattle.rlsf_heap.proofs.Kept.{heap_same, raw_same, refused_same}
 use Rattle.rlsf_heap.proofs.TakenBack.{IsAt, IsBack, IsHeap-over, core_back, count_back, frame_over, here_there, kept_same, lies_over, own_over, payload_back, range_back}
 use Rattle.rlsf_heap.proofs.TakenBack.{bytes_are, reads_over, refused_over, relocated_at, resized_over, seen_back, sized_back, sized_over, step_over, taken_back, there_at, told_as}
 use Rattle.rlsf_heap.proofs.heap.Heap.reallocate.Given as given
@@ -186,11 +185,9 @@ returns g c =
         layout = subst (IsLayout c.args.size) c.align-align.ensures (c.in-Ok.ensures.succeeds.0 refl);
         resized = resized_over is pay back e.left at whole c.align-align.ensures over ledger label c.take_back.ensures.name c.args.size now.made.sized now.made.few now.made.kept
             now.here;
-        others = record {
-          some = λ zero. omega (arith, now.some, starts, zero);
-          new = λ apart. sym ((seen_back is pay back).aligns p.start) ∙ ap (align_at (read_from n j)) (sym starts) ∙ at.new (λ same. apart (sym starts ∙ same));
-          aligns = λ a off off_to. reads (λ (x : State). align_at x a ≡ align_at before a) (at.aligns a off (λ same. off_to (same ∙ starts)) ∙ (seen_back is pay back).aligns a);
-        };
+        some = λ zero. omega (arith, now.some, starts, zero);
+        new = λ apart. sym ((seen_back is pay back).aligns p.start) ∙ ap (align_at (read_from n j)) (sym starts) ∙ at.new (λ same. apart (sym starts ∙ same));
+        aligns = λ a off off_to. reads (λ (x : State). align_at x a ≡ align_at before a) (at.aligns a off (λ same. off_to (same ∙ starts)) ∙ (seen_back is pay back).aligns a);
       };
       room = λ most longest widest sized few short fits _. refl;
       bounds = sized_over is pay back e.left at whole c.align-align.ensures over c.args.size
@@ -207,9 +204,10 @@ returns-in_default g c =
     let none : IsLayout c.args.size c.args.payload.align → ⊥ =
     λ fits. false≢true (c.in_default.ensures.succeeds.1 (subst (IsLayout c.args.size) (sym c.align-align.ensures) fits)) in record {
       step = subst (λ (o : HeapView). Steps g.row.FLLEN g.row.SLLEN o (λ t. IsLayout c.args.size c.args.payload.align
-          → Reallocates g.row.SLLEN (owned_by c.args.self.now.state c.args.payload) c.args.payload.start c.args.size None t)) c.self.view_is
+          → Reallocates g.row.SLLEN (filled c.args.self.now.state c.args.payload.start c.args.payload.bytes) c.args.payload.start c.args.size None t)) c.self.view_is
           (Steps-arrived c.self.invariant.stands c.self.inside.state.state (sym (bare-kept c.self.invariant)) c.self.inside.ledger.name c.self.inside.lent
-          (λ t. IsLayout c.args.size c.args.payload.align → Reallocates g.row.SLLEN (owned_by c.args.self.now.state c.args.payload) c.args.payload.start c.args.size None t)
+          (λ t. IsLayout c.args.size c.args.payload.align
+          → Reallocates g.row.SLLEN (filled c.args.self.now.state c.args.payload.start c.args.payload.bytes) c.args.payload.start c.args.size None t)
           (λ fits. absurd (none fits)));
       result = tt;
       room = λ count most wide sized few short fits whole. absurd (none whole);
@@ -217,9 +215,12 @@ returns-in_default g c =
       refused = refused_same c.args.self.now c.args.payload c.requires.identity c.requires.written;
       frame = record {
         heap = heap_same c.args.self.now;
-        bytes = bytes_same c.args.self.now;
+        raw = raw_same c.args.self.now;
+        settled = λ settled. settled;
         chunks = refl;
-        copied = record { copied = omega arith; grow_copied = omega arith; stays = λ room. refl };
+        copied = omega arith;
+        grow_copied = omega arith;
+        stays = λ room. refl;
       };
       touches = omega arith;
     }

@@ -3,9 +3,9 @@ use Rattle.rlsf_base.specs.Layout.{IsLayout}
 use Rattle.rlsf_model.specs.Reallocate.{Reallocates}
 use Rattle.rlsf_model.specs.Sized.{IsSizedFor, live_count}
 use Rattle.rlsf_heap.specs.Heap.{HeapView, PayloadView}
-use Rattle.rlsf_heap.specs.Replies.{LeavesOthers}
-use Rattle.rlsf_heap.proofs.Found.{IsFound, as_found, bytes_found, heap_found, refused_found, resized_found, sized_found, step_found}
-use Rattle.rlsf_heap.specs.Frame.{CopiesToMove}
+use Rattle.rlsf_heap.proofs.Found.{IsFound, as_found, heap_found, raw_found, refused_found, resized_found, settled_found, sized_found, step_found}
+use Rattle.rlsf_heap.specs.Replies.{IsResizedOrMoved}
+use Rattle.rlsf_heap.specs.Frame.{KeepsFrameMoving}
 use Rattle.rlsf_heap.proofs.heap.Heap.reallocate_thin.Goals as goal
 
 pub returns-in-Ok : goal.returns-in-Ok
@@ -16,15 +16,19 @@ returns-in-Ok g c =
     let thin = c.into_thin.ensures.1 in
     let new = c.reallocate.new.self in
     let as_now = as_found f c.in-Ok.payload c.into_thin.result.of thin in
+    let moved = as_now (λ v from addr align to. IsResizedOrMoved v new addr c.args.size align from to) e.result in
+    let framed = as_now (λ v from addr align to. KeepsFrameMoving v new addr c.args.size from) e.frame in
     record {
       step = step_found f g.row.FLLEN g.row.SLLEN new c.args.size (λ s addr to t. Reallocates g.row.SLLEN s addr c.args.size to t) (Some c.in-Ok.payload.start)
           (Some c.into_thin.result.of.start) (ap (λ (o : PayloadView). Some o.start) (sym thin)) e.step;
       result = record {
         at = c.into_thin.ensures.0 ∙ ap (λ (o : PayloadView). o.start) (sym thin);
         of = record {
-          layout = as_now (λ v from addr align to. IsLayout c.args.size align) e.result.layout;
+          layout = moved.layout;
           resized = resized_found f c.args.size new c.in-Ok.payload c.into_thin.result.of thin e.result.resized;
-          others = as_now (λ v from addr align to. LeavesOthers v.state new.state addr to.start) e.result.others;
+          some = moved.some;
+          new = moved.new;
+          aligns = moved.aligns;
         };
       };
       room = λ count most wide sized few short fits is. refl;
@@ -32,9 +36,12 @@ returns-in-Ok g c =
       refused = tt;
       frame = record {
         heap = heap_found c.args.self.now c.find_payload-payload.new.self new f.heap e.frame.heap;
-        bytes = bytes_found c.args.self.now c.find_payload-payload.new.self new f.heap e.frame.bytes;
+        raw = raw_found c.args.self.now c.find_payload-payload.new.self new f.heap e.frame.raw;
+        settled = λ settled. e.frame.settled (settled_found c.args.self.now c.find_payload-payload.new.self f.heap settled);
         chunks = e.frame.chunks ∙ ap (λ (v : HeapView). v.state.chunks) f.heap;
-        copied = as_now (λ v from addr align to. CopiesToMove v.state from addr c.args.size v.memory.copied new.memory.copied) e.frame.copied;
+        copied = framed.copied;
+        grow_copied = framed.grow_copied;
+        stays = framed.stays;
       };
       touches = omega (arith, e.touches, ap (λ (v : HeapView). v.memory.touches) f.heap);
     }
@@ -47,6 +54,7 @@ returns-in-Err g c =
     let thin = c.into_thin-in-Err.ensures.1 in
     let new = c.reallocate.new.self in
     let as_now = as_found f c.in-Err.payload c.into_thin-in-Err.result.of thin in
+    let framed = as_now (λ v from addr align to. KeepsFrameMoving v new addr c.args.size from) e.frame in
     record {
       step = step_found f g.row.FLLEN g.row.SLLEN new c.args.size (λ s addr to t. Reallocates g.row.SLLEN s addr c.args.size to t) None None refl e.step;
       result = tt;
@@ -59,9 +67,12 @@ returns-in-Err g c =
       };
       frame = record {
         heap = heap_found c.args.self.now c.find_payload-payload.new.self new f.heap e.frame.heap;
-        bytes = bytes_found c.args.self.now c.find_payload-payload.new.self new f.heap e.frame.bytes;
+        raw = raw_found c.args.self.now c.find_payload-payload.new.self new f.heap e.frame.raw;
+        settled = λ settled. e.frame.settled (settled_found c.args.self.now c.find_payload-payload.new.self f.heap settled);
         chunks = e.frame.chunks ∙ ap (λ (v : HeapView). v.state.chunks) f.heap;
-        copied = as_now (λ v from addr align to. CopiesToMove v.state from addr c.args.size v.memory.copied new.memory.copied) e.frame.copied;
+        copied = framed.copied;
+        grow_copied = framed.grow_copied;
+        stays = framed.stays;
       };
       touches = omega (arith, e.touches, ap (λ (v : HeapView). v.memory.touches) f.heap);
     }

@@ -1,13 +1,12 @@
 use Rattle.std.proofs.Common.{◌≤◌, arith, true≢false, refl, sym, ap, subst, ◌∙◌}
 use Rattle.rlsf_model.specs.Callers.{align_at}
-use Rattle.rlsf_model.specs.State.{AreAlike}
+use Rattle.rlsf_model.specs.State.{AreAlike, filled}
 use Rattle.rlsf_heap.specs.Heap.{IsWritten, PayloadView}
 use Rattle.rlsf_heap.specs.Kept.{KeepsBytesBeside}
-use Rattle.rlsf_heap.specs.Reallocation.{owned_by}
-use Rattle.rlsf_heap.specs.Replies.{IsReallocated}
+use Rattle.rlsf_heap.specs.Replies.{IsResized}
 use Rattle.rlsf_heap.specs.ThinReplies.{thin_moved_to}
 use Rattle.rlsf_heap.proofs.Kept.{frame_both, same-byte}
-use Rattle.rlsf_heap.proofs.Found.{if_err, if_ok, reallocated_as, step_moves, step_stays}
+use Rattle.rlsf_heap.proofs.Found.{if_err, if_ok, resized_as, step_moves, step_stays}
 use Rattle.rlsf_heap.proofs.heap.Heap.reallocate_thin_unknown_align.Goals as goal
 
 pub returns-in-Ok : goal.returns-in-Ok
@@ -19,13 +18,12 @@ returns-in-Ok g c =
     let pay = c.args.payload.of in
     let layout = c.args.layout in
     record {
-      step = step_stays g.row.SLLEN (owned_by c.args.self.now.state pay) c.args.addr layout.size layout.align g.row.FLLEN new p.of.start e.step;
+      step = step_stays g.row.SLLEN (filled c.args.self.now.state pay.start pay.bytes) c.args.addr layout.size layout.align g.row.FLLEN new p.of.start e.step;
       result = record {
         at = e.result.at;
         of = record {
-          identity = there.resized.identity;
-          made = subst (λ a. IsReallocated new.state pay layout.size a p.of) (sym there.resized.requested) there.resized.made;
-          written = there.resized.here.written c.requires.settled;
+          resized = subst (λ a. IsResized c.args.self.now new layout.size a pay p.of) (sym there.resized.requested) there.resized;
+          written = there.resized.written c.requires.settled;
           others = record {
             some = λ none. c.requires.some.1 (sym there.start ∙ none);
             new = λ apart. absurd (apart there.start);
@@ -49,7 +47,7 @@ move_thin-requires g c =
     let e = c.in-Err.ensures in
     let was = e.refused.of.refused in (
       omega arith,
-      ((was.returned.start, c.requires.some.1), (was.identity ∙ sym e.frame.heap.identity, (was.returned.written, e.frame.bytes.settled c.requires.settled))),
+      ((was.start, c.requires.some.1), (was.identity ∙ sym e.frame.heap.identity, (was.written, e.frame.settled c.requires.settled))),
     )
 
 pub returns-in-Err : goal.returns-in-Err
@@ -67,20 +65,19 @@ returns-in-Err g c =
     let u = e.refused.of in
     let was = u.refused in
     record {
-      step = step_moves g.row.SLLEN (owned_by old.state pay) c.args.addr size align g.row.FLLEN new mid (thin_moved_to r) e.step f.step;
+      step = step_moves g.row.SLLEN (filled old.state pay.start pay.bytes) c.args.addr size align g.row.FLLEN new mid (thin_moved_to r) e.step f.step;
       result = if_ok r (λ q is. record {
         at = is.at;
         of = record {
-          identity = is.of.identity ∙ e.frame.heap.identity;
-          made = reallocated_as new.state c.in-Err.payload.of pay q.of size align was.returned.bytes is.of.requested is.of.made;
+          resized = resized_as old mid new c.in-Err.payload.of pay q.of size align e.frame.heap.identity was.bytes is.of.written is.of.resized;
           written = is.of.written;
           others = record {
             some = is.of.others.some;
-            new = λ off. (λ i. sym was.returned.aligns i q.of.start) ∙ is.of.others.new off;
-            aligns = λ a off off_to. is.of.others.aligns a off off_to ∙ (λ i. was.returned.aligns i a);
+            new = λ off. (λ i. sym was.aligns i q.of.start) ∙ is.of.others.new off;
+            aligns = λ a off off_to. is.of.others.aligns a off off_to ∙ (λ i. was.aligns i a);
           };
           there = λ same. absurd (is.of.apart same);
-          moved = λ _. is.of.requested;
+          moved = λ _. is.of.resized.requested;
           gone = λ _. is.of.gone;
           live = u.live;
         };
@@ -99,13 +96,11 @@ returns-in-Err g c =
           refused = record {
             identity = is.of.identity ∙ e.frame.heap.identity;
             requested = is.of.requested ∙ was.requested;
-            returned = record {
-              start = ap (λ (o : PayloadView). o.start) is.of.same ∙ was.returned.start;
-              bytes = ap (λ (o : PayloadView). o.bytes) is.of.same ∙ was.returned.bytes;
-              written = subst (λ (o : PayloadView). IsWritten o) (sym is.of.same) was.returned.written;
-              alike = subst (AreAlike old.state) (sym is.of.unchanged.same) was.returned.alike;
-              aligns = ap align_at is.of.unchanged.same ∙ was.returned.aligns;
-            };
+            start = ap (λ (o : PayloadView). o.start) is.of.same ∙ was.start;
+            bytes = ap (λ (o : PayloadView). o.bytes) is.of.same ∙ was.bytes;
+            written = subst (λ (o : PayloadView). IsWritten o) (sym is.of.same) was.written;
+            alike = subst (AreAlike old.state) (sym is.of.unchanged.same) was.alike;
+            aligns = ap align_at is.of.unchanged.same ∙ was.aligns;
             unchanged = λ a from to side. same-byte mid.memory new.memory f.frame.heap.place.0 is.of.unchanged.bytes a ∙ was.unchanged a from to side;
           };
           live = u.live;

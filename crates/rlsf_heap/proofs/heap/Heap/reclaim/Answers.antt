@@ -67,7 +67,7 @@ returns g c =
     let e = c.take_out.ensures in
     let ledger = c.self.inside.ledger.name in
     rw (← c.self.view_is) (record {
-      stands = stands_lent c.self.invariant c.args.range (clear g d) (changed g d);
+      stands = (stands_lent c.self.invariant c.args.range (clear g d) (changed g d)).well_formed;
       reclaimed = record {
         heap = record {
           identity = same_identity m n e.memory.start (ap length e.memory.bytes) e.memory.view ledger ledger refl;

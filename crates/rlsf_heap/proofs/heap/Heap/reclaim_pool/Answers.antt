@@ -61,9 +61,9 @@ returns-then-try_remove_pool-clause-reclaimed g c =
         home = then.home ∙ ap (λ (i : Identity). i.home) frame.heap.identity;
         start = then.part.start;
         len = then.part.len;
-        full = λ settled. then.full (frame.bytes.settled settled);
+        full = λ settled. then.full (frame.settled settled);
         away = then.away;
-        settled = λ settled. then.settled (frame.bytes.settled settled);
+        settled = λ settled. then.settled (frame.settled settled);
       },
     )
 

@@ -18,7 +18,7 @@ use Rattle.rlsf_tlsf.proofs.Relocated.{ends_held}
 use Rattle.rlsf_heap.specs.Handover.{IsHandedOver}
 use Rattle.rlsf_heap.specs.Heap.{AreIssued, HeapView, Identity, IsPayload, PayloadView, payload_view}
 use Rattle.rlsf_heap.proofs.Tickets.{issued_renewed}
-use Rattle.rlsf_heap.proofs.TakenBack.{IsAt, IsBack, IsHeap-over, back_as, bytes_over, core_back, found_back, here_there, keeps_over, lies_over, live_back, live_before, no_room, own_over}
+use Rattle.rlsf_heap.proofs.TakenBack.{IsAt, IsBack, IsHeap-over, back_as, raw_over, settled_last, core_back, found_back, here_there, keeps_over, lies_over, live_back, live_before, no_room, own_over}
 use Rattle.rlsf_heap.proofs.TakenBack.{range_back, reads_over, refused_over, resized_over, seen_back, sized_back, sized_over, step_over, there_at, bytes_are, without}
 use Rattle.rlsf_heap.proofs.heap.Heap.resize_part.Given as given
 use Rattle.rlsf_heap.proofs.heap.Heap.resize_part.Goals as goal
@@ -231,7 +231,8 @@ returns g c =
           told g f (λ a. KeepsBoundsThere g.row.SLLEN (s g f) (t g f) a size) e.bounds most longest wide c.args.ticket.align sized (live_back is pay back) short fits);
       frame = record {
         heap = keeps_over is pay back e.left at whole aligned over kept.chunks ledger label (c.renewed-ticket-2.ensures.ledger.0 ∙ c.renewed-ticket.ensures.ledger.0);
-        bytes = bytes_over is pay back e.left at whole aligned over ledger label;
+        raw = raw_over is pay back e.left at whole aligned over ledger label;
+        settled = settled_last is pay back e.left at whole aligned over;
         chunks = reads (λ (x : State). x.chunks ≡ before.chunks) kept.chunks;
         copied = take.counts.1 ∙ (let e : c.resize_in-done.new.memory.copied ≡ m.copied = omega (arith, e.left.costs.copied, put.counts.1) in e);
       };

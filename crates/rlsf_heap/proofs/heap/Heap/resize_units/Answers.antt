@@ -268,7 +268,7 @@ returns-then-not-resize_block_in g c =
     let long = as_was g d c.take_unit_payload.new.self e.memory.start e.memory.bytes no in
     let did = step g d is false no in
     rw (← c.self.view_is) (record {
-      step = (did, (invariant_of-self g c).stands);
+      step = (did, (invariant_of-self g c).stands.well_formed);
       result = tt;
       room = λ shorter. absurd (shrinks (b g d).shown c.args.size shorter did);
       bounds = sized g d is;
@@ -335,7 +335,7 @@ returns g c =
       step = (
         subst (λ a. ReallocatesWithoutMove (read_from c.self.inside.memory c.self.inside.state.state) c.args.payload.start c.args.size (Some a)
             (read_from c.take_unit_payload-2.new.self c.resize_block_in.new.state.state)) (sym start) (step g d is true yes),
-        (invariant_of-self-2 g c).stands,
+        (invariant_of-self-2 g c).stands.well_formed,
       );
       result = record {
         place = in_place g d c.take_unit_payload-2.new.self e.memory.start e.memory.bytes now (fits g early) long wanted e.place

@@ -1,3 +1,4 @@
+use Rattle.std.specs.Prelude.{take, drop, ◌++◌}
 use Rattle.std.proofs.Common.{[], ◌≡◌, ◌≤◌, ℕ, List, IsSome, length, arith, sym, ◌∙◌, subst, ◌+◌, ap}
 use Rattle.rlsf_base.specs.Addr.{at}
 use Rattle.rlsf_base.specs.Range.{LiesIn, range_at}
@@ -6,7 +7,7 @@ use Rattle.rlsf_base.proofs.Lending.Whole.{none-with}
 use Rattle.rlsf_base.specs.Space.{Space, bytes_in, with_bytes, SamePlace}
 use Rattle.rlsf_model.specs.Callers.{align_at, bytes_at}
 use Rattle.rlsf_model.specs.Run.{Fills}
-use Rattle.rlsf_model.specs.State.{State, with_front}
+use Rattle.rlsf_model.specs.State.{State}
 use Rattle.rlsf_model.proofs.CallerWords.{filled_seen}
 use Rattle.rlsf_model.proofs.Chunks.{chunks-filled}
 use Rattle.rlsf_model.proofs.SizedWords.{count_filled, sized_filled}
@@ -61,7 +62,7 @@ module _ (g : given.Over) (c : After-copy_within g) where
   after = allocator c.copy_within.new.self c.self-inside.inside.0.1.0 j
 
   abbrev front : List ℕ
-  front = with_front c.args.len (bytes_at old.state (at c.args.from)) (bytes_at old.state (at c.args.to))
+  front = (take c.args.len (bytes_at old.state (at c.args.from)) ++ drop c.args.len (bytes_at old.state (at c.args.to)))
 
   view : allocator m c.self-inside.inside.0.1.0 j ≡ old
   view = view-opened c.self-inside.view_is c.self.view_is
@@ -82,8 +83,8 @@ module _ (g : given.Over) (c : After-copy_within g) where
       let bytes : n.bytes ≡ with_bytes m (at c.args.to) (bytes_in m (range_at (at c.args.from) len)) =
       c.copy_within.ensures.memory.bytes ∙ (λ i. with_bytes m (c.get-2.ensures.value i) (bytes_in m (range_at (c.get.ensures.value i) len))) in
       subst (λ (bs : List ℕ). (t : State) × Fills (read_from m j) (at c.args.to) bs t × StandsFor g.row.FLLEN g.row.SLLEN (contents n c.self-inside.inside.0.1.0) t
-      × KeepsSpare m (read_from m j) n t) {x = with_front len u.bytes w.bytes}
-      (λ i. with_front len (sym (bytes_inside is old view (at c.args.from) u source) i) (sym (bytes_inside is old view (at c.args.to) w target) i))
+      × KeepsSpare m (read_from m j) n t) {x = (take len u.bytes ++ drop len w.bytes)}
+      (λ i. (take len (sym (bytes_inside is old view (at c.args.from) u source) i) ++ drop len (sym (bytes_inside is old view (at c.args.to) w target) i)))
       (stands_copied is.stands len (at c.args.from) (at c.args.to) u w source target (long_inside is old view (at c.args.from) len u source c.requires.long.0)
       (long_inside is old view (at c.args.to) len w target c.requires.long.1) n c.copy_within.ensures.memory.start bytes (none ∙ sym is.whole))
 

@@ -25,7 +25,7 @@ returns g c =
       bounds = λ count most wide sized short low. did.bounds count most wide (collected.bounds count most wide sized) short low;
       frame = record {
         identity = did.frame.heap.identity ∙ collected.identity;
-        settled = λ s. did.frame.bytes.settled (collected.settled s);
+        settled = λ s. did.frame.settled (collected.settled s);
         room = room;
       };
       touches = omega (arith, did.touches, collected.touches, few);

@@ -21,7 +21,7 @@ returns-in_err-payload g c =
       result = tt;
       room = λ count most wide sized lives short low less. did.room.bounds count most wide sized lives short low;
       bounds = did.bounds;
-      frame = record { identity = did.frame.heap.identity; settled = did.frame.bytes.settled; room = refl };
+      frame = record { identity = did.frame.heap.identity; settled = did.frame.settled; room = refl };
       touches = did.touches;
     }))
 
@@ -38,6 +38,6 @@ returns g c =
       result = did.result;
       room = λ count most wide sized lives short low less. refl;
       bounds = did.bounds;
-      frame = record { identity = did.frame.heap.identity; settled = did.frame.bytes.settled; room = refl };
+      frame = record { identity = did.frame.heap.identity; settled = did.frame.settled; room = refl };
       touches = did.touches;
     }))
