@@ -28,7 +28,7 @@ use Rattle.rlsf_blocks.proofs.Words.Apart.{home_of_used, used_used}
 use Rattle.rlsf_heap.specs.Renewed.{IsRedeemed}
 use Rattle.rlsf_base.specs.declared.memory.ledger.Ticket.{Ticket}
 use Rattle.rlsf_base.specs.declared.memory.view.View.{View}
-use Rattle.rlsf_base.specs.Piece.{CanCome, Piece, piece_range}
+use Rattle.rlsf_base.specs.Piece.{CanCome, Piece}
 use Rattle.rlsf_model.specs.Allocate.{Allocates}
 use Rattle.rlsf_model.specs.Lists.{IsIn}
 use Rattle.rlsf_blocks.specs.Steps.LiveBlock.{AtEachBlock, IsLiveIn}
@@ -305,14 +305,6 @@ module _ (of : PayloadView) (q : Piece) (one : q ≡ bytes_of of) where
   -- its ticket is one of this part
   pub ticket_of_bytes : (t : Ticket) → IsTicketFor of t → IsTicketOf q of.align (extent t.addr t.len t.align)
   ticket_of_bytes t is = (ap (λ (o : Piece). o.start) one ∙ sym is.1, ap (λ (o : Piece). length o.bytes) one ∙ sym is.2, sym is.3)
-
-  -- they are of its heap
-  pub identity_of_bytes : (t : Ticket) → IsTicketFor of t → ◌≡◌ {A = Identity} (record { home = q.home; ledger = t.name }) of.identity
-  identity_of_bytes t is = λ i. record { home = (one i).home; ledger = is.0 i }
-
-  -- they can be a part again
-  pub comes_back : CanComeBack of → CanCome q q.home.view (piece_range q)
-  comes_back whole = subst (λ (o : Piece). CanCome o o.home.view (piece_range o)) (sym one) whole
 
 -- ---- a payload gets another size: the others are as they were, and its bytes are the memory's own
 

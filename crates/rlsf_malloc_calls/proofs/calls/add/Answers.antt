@@ -1,4 +1,4 @@
-use Rattle.std.proofs.Common.{rules, ◌≡◌, ◌≤◌, ℕ, ◌+◌, length, sym, ap, subst, ◌∙◌, inr}
+use Rattle.std.proofs.Common.{rules, ◌≡◌, ◌≤◌, ℕ, ◌+◌, length, sym, subst, inr}
 use Rattle.rlsf_base.specs.Addr.{reply, reply_of}
 use Rattle.rlsf_base.specs.declared.memory.range.Range.{Range}
 use Rattle.rlsf_base.specs.Range.{AreApart, LiesIn, range_at}
@@ -13,21 +13,6 @@ use Rattle.rlsf_malloc_calls.proofs.PoolEnds.{inserted-beside, inserted-few}
 use Rattle.rlsf_malloc_calls.proofs.calls.add.Given as given
 use Rattle.rlsf_malloc_calls.proofs.calls.add.Goals as goal
 use Rattle.rlsf_malloc_calls.proofs.calls.add.Goals.{After-lend_loan, After-or_zero-number}
-
-pub lend_loan-requires : goal.lend_loan-requires
-lend_loan-requires g c =
-    let can = c.requires.1 in let b = can.bytes in
-    (search rules, ((λ none. b.some (sym (ap (λ (r : Range). r.start) b.range) ∙ none)), (b.range, (b.home, (b.full, (can.lies, can.untouched))))))
-
-pub insert_free_block_ptr-requires : goal.insert_free_block_ptr-requires
-insert_free_block_ptr-requires g c =
-    let can = c.requires.1 in let e = c.lend_loan.ensures.lent.heap in let range = range_at c.args.start c.args.len in (
-      search rules,
-      (
-        subst (λ (m : ℕ × ℕ). LiesIn range m.0 m.1) (λ i. (sym e.place.0 i, sym e.place.1 i)) can.lies,
-        (subst (λ (s : State). IsUntouched s.chunks range) (sym e.state) can.untouched, λ is. c.lend_loan.ensures.range),
-      ),
-    )
 
 module _ (g : given.Over) (c : After-or_zero-number g) where
   abbrev r : Range

@@ -1,12 +1,11 @@
-use Rattle.std.specs.Prelude.{None}
 use Rattle.std.proofs.Common.{◌≡◌, Some, length, arith, refl, sym, ◌∙◌, ap}
 use Rattle.rlsf_base.specs.Addr.{at}
 use Rattle.rlsf_flex.specs.StandsFor.{flex_contents}
 use Rattle.rlsf_flex.specs.Steps.Parts.{flex_over}
 use Rattle.rlsf_model.specs.Callers.{align_at, bytes_at}
 use Rattle.rlsf_model.specs.FlexState.{FlexState}
-use Rattle.rlsf_model.specs.Reallocate.{HasRoomToResize, HasRoomToStay, plan}
-use Rattle.rlsf_model.specs.State.{Used, usable, Holds}
+use Rattle.rlsf_model.specs.Reallocate.{HasRoomToResize, HasRoomToStay}
+use Rattle.rlsf_model.specs.State.{Used, usable}
 use Rattle.rlsf_model.proofs.CallerWords.{align_at-live, bytes_at-held}
 use Rattle.rlsf_table.proofs.Parameters.{IsValid-widest}
 use Rattle.rlsf_tlsf.specs.Allocator.{Allocator}

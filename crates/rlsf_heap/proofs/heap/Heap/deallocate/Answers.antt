@@ -1,5 +1,5 @@
-use Rattle.std.proofs.Common.{◌≡◌, Some, length, arith, refl, sym, ap, subst, ◌∙◌}
-use Rattle.rlsf_base.specs.Piece.{CanCome, Piece, piece_range}
+use Rattle.std.proofs.Common.{◌≡◌, Some, refl, sym, ap, subst, ◌∙◌}
+use Rattle.rlsf_base.specs.Piece.{Piece}
 use Rattle.rlsf_heap.specs.Frame.{KeepsFrameBeside}
 use Rattle.rlsf_heap.specs.Heap.{PayloadView, payload_range, payload_view}
 use Rattle.rlsf_heap.proofs.Found.{deallocated}
@@ -12,24 +12,6 @@ thin_parts : (g : given.Over) (c : After-into_thin_bytes g)
     → payload_view c.into_thin_bytes.result.piece c.args.payload.align c.into_parts-part.result.1.name ≡ c.args.payload
 thin_parts g c =
     ap (λ (q : Piece). payload_view q c.args.payload.align c.into_parts-part.result.1.name) c.into_thin_bytes.ensures.piece ∙ c.into_parts-part.ensures.parts
-
-pub put_raw-requires : goal.put_raw-requires
-put_raw-requires g c =
-    let q = c.into_thin_bytes.ensures.piece in
-    let t = c.into_parts-part.ensures.ticket in
-    let identity = ap (λ (p : PayloadView). p.identity) (thin_parts g (goal.at.put_raw-requires g c).After-into_thin_bytes) ∙ c.requires in (
-      omega arith,
-      (
-        (
-          ap (λ (p : Piece). p.start) q ∙ sym c.start-addr.ensures,
-          subst (λ (p : Piece). CanCome p p.home.view (piece_range p)) (sym q) c.into_thin_bytes.ensures.can,
-        ),
-        (
-          (ap (λ (p : Piece). p.start) q ∙ t.0, ap (λ (p : Piece). length p.bytes) q ∙ t.1, refl),
-          (identity, sym t.2 ∙ sym c.align-align.ensures),
-        ),
-      ),
-    )
 
 pub returns-clause-result : goal.returns-clause-result
 returns-clause-result g c =

@@ -1,26 +1,10 @@
-use Rattle.std.proofs.Common.{Some, arith, refl, sym, ap, subst, ◌∙◌}
-use Rattle.rlsf_base.specs.Piece.{IsFull, Piece}
+use Rattle.std.proofs.Common.{Some, ap, subst, ◌∙◌}
+use Rattle.rlsf_base.specs.Piece.{Piece}
 use Rattle.rlsf_model.specs.Release.{Deallocates}
 use Rattle.rlsf_heap.specs.Heap.{Steps}
 use Rattle.rlsf_heap.proofs.Found.{deallocated}
-use Rattle.rlsf_heap.proofs.Tickets.{comes_back, identity_of_bytes, payload_of_bytes, ticket_of_bytes}
+use Rattle.rlsf_heap.proofs.Tickets.{payload_of_bytes}
 use Rattle.rlsf_heap.proofs.heap.Heap.deallocate_thin_written.Goals as goal
-
-pub put_written-requires : goal.put_written-requires
-put_written-requires g c =
-    let e = c.into_parts.ensures in
-    let of = c.args.payload.of in
-    let q = c.into_parts.result.0.piece in
-    let t = ticket_of_bytes of q e.bytes.0 c.into_parts.result.1 e.ticket in (
-      omega arith,
-      (
-        (ap (λ (p : Piece). p.start) e.bytes.0 ∙ c.requires.some.0, comes_back of q e.bytes.0 e.bytes.1),
-        (
-          (t.0, t.1, refl),
-          (identity_of_bytes of q e.bytes.0 c.into_parts.result.1 e.ticket ∙ c.requires.heap, (subst (λ (o : Piece). IsFull o) (sym e.bytes.0) c.requires.written, tt)),
-        ),
-      ),
-    )
 
 pub returns : goal.returns
 returns g c =

@@ -1,5 +1,5 @@
 use Rattle.std.proofs.Common.{◌≡◌, ◌≢◌, ◌+◌, ◌%◌, ◌<◌, ◌≤◌, ℕ, List, None, length, true≢false, arith, refl, sym, ap, subst, ◌∙◌}
-use Rattle.rlsf_base.specs.Piece.{CanCome, Piece, piece_range}
+use Rattle.rlsf_base.specs.Piece.{Piece}
 use Rattle.rlsf_model.specs.Allocate.{Allocates}
 use Rattle.rlsf_model.specs.Callers.{align_at, bytes_at}
 use Rattle.rlsf_model.specs.Reallocate.{Keeps}
@@ -13,28 +13,6 @@ use Rattle.rlsf_heap.proofs.heap.Heap.move_thin.Goals as goal
 
 pub as_mut_slice-requires : goal.as_mut_slice-requires
 as_mut_slice-requires g c = c.in-Some.ensures.result.written (settled_found c.args.self.now c.find_part-part.new.self c.find_part-part.ensures.heap c.requires.settled)
-
-pub put_written-requires : goal.put_written-requires
-put_written-requires g c =
-    let q = c.into_thin_bytes.ensures.piece in
-    let t = c.find_part-part.ensures.ticket in
-    let parts = ap (λ (p : Piece). payload_view p c.args.payload.of.align c.find_part-part.result.1.name) q ∙ c.find_part-part.ensures.parts in (
-      omega arith,
-      (
-        (
-          ap (λ (p : PayloadView). p.start) parts ∙ c.requires.some.0,
-          subst (λ (p : Piece). CanCome p p.home.view (piece_range p)) (sym q) c.into_thin_bytes.ensures.can,
-        ),
-        (
-          (ap (λ (p : Piece). p.start) q ∙ t.0, ap (λ (p : Piece). length p.bytes) q ∙ t.1, refl),
-          (
-            ap (λ (p : PayloadView). p.identity) parts ∙ c.requires.heap
-                ∙ sym (ap (λ (v : HeapView). v.identity) c.find_part-part.ensures.heap) ∙ sym c.in-Some.ensures.frame.heap.identity,
-            (subst (λ (p : PayloadView). IsWritten p) (sym parts) c.requires.written, tt),
-          ),
-        ),
-      ),
-    )
 
 -- the new payload is where the allocation put it
 there : (g : given.Over) (c : goal.After-into_thin g) → c.into_thin.result.of.start ≡ c.in-Some.to.start

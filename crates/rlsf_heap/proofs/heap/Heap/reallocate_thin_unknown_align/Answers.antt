@@ -42,14 +42,6 @@ returns-in-Ok g c =
       touches = omega (arith, e.touches);
     }
 
-pub move_thin-requires : goal.move_thin-requires
-move_thin-requires g c =
-    let e = c.in-Err.ensures in
-    let was = e.refused.of.refused in (
-      omega arith,
-      ((was.start, c.requires.some.1), (was.identity ∙ sym e.frame.heap.identity, (was.written, e.frame.settled c.requires.settled))),
-    )
-
 pub returns-in-Err : goal.returns-in-Err
 unfolding KeepsBytesBeside
 returns-in-Err g c =
