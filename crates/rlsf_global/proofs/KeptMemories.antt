@@ -114,6 +114,12 @@ keeps_alone f f' live live' step stood did place touched copied few codes =
 pub keeps_looked : (f : FlexContents PageCursor) (live : LiveRows) → KeepsLocked (locked_contents f live) (locked_contents f (looked live))
 keeps_looked f live = keeps_unchanged f live (looked live) (omega arith) (λ has. has)
 
+-- a code was read, and one more code was read or written by what followed
+pub keeps_looked_before : (f f' : FlexContents PageCursor) (live live' : LiveRows) → KeepsLocked (locked_contents f (looked live)) (locked_contents f' live')
+    → live'.looks ≡ live.looks + 1 + 1 → KeepsLocked (locked_contents f live) (locked_contents f' live')
+keeps_looked_before f f' live live' kept looks =
+    record { memory = kept.memory; grow = kept.grow; copied = kept.copied; looks = omega (arith, looks); codes = kept.codes }
+
 pub keeps_looked_writing : (f : FlexContents PageCursor) (live : LiveRows) → KeepsLockedWriting (locked_contents f live) (locked_contents f (looked live))
 keeps_looked_writing f live =
     record { layouts = refl; memory = KeepsMemory-refl f; grow = omega arith; copied = refl; looks = omega arith; codes = λ has. has }

@@ -1,7 +1,7 @@
 //! An allocator for threads: `GlobalTlsf` is a TLSF allocator over whole pages behind one lock, with a table of its live addresses.
 //!
 //! Read `locked.rt` first: `Locked` is the value under the lock, with all calls. `shared.rt` puts it behind the lock. `moves.rt`
-//! moves payloads, `live_table.rt` has the table, and `rows.rt` returns its entries.
+//! moves payloads and `release.rt` deallocates them, `live_table.rt` has the table, and `rows.rt` returns its entries.
 //! The contracts cite `specs/Locked.antt`, and the heap and its steps in `rlsf_model_global`.
 //!
 //! A `Book` is a `Locked` with a journal of its placement calls, and a `Journaled` is a book behind a lock. Each caller has a `Pass`,
@@ -33,6 +33,7 @@ mod locked;
 mod moves;
 mod pass;
 mod receipts;
+mod release;
 mod rows;
 mod shared;
 mod text;

@@ -19,6 +19,7 @@ ghost use Rattle.rlsf_model_global.specs.Steps.{HeapAllocates, HeapDeallocates, 
 
 use crate::live_table::LiveTable;
 use crate::moves::{PagedTlsf, move_away, resize};
+use crate::release::release;
 use crate::rows::{row_of, rows_of};
 use rlsf_base::memory::{Addr, Layout, Memory, Range};
 use rlsf_flex::{FlexTlsf, GlobalTlsfOptions, Source};
@@ -151,8 +152,7 @@ impl<Options: GlobalTlsfOptions> Locked<Options> {
             // Only a live address has an entry, so nothing is deallocated twice.
             return Err(GlobalError::UnknownAddress);
         };
-        self.rows.remove(addr);
-        self.flex.deallocate(addr, row.1.align());
+        release(&mut self.flex, &mut self.rows, addr, row);
         Ok(())
     }
 
@@ -181,8 +181,7 @@ impl<Options: GlobalTlsfOptions> Locked<Options> {
         if row.1 != layout {
             return Err(GlobalError::WrongLayout);
         }
-        self.rows.remove(addr);
-        self.flex.deallocate(addr, layout.align());
+        release(&mut self.flex, &mut self.rows, addr, row);
         Ok(())
     }
 
