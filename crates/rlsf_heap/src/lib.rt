@@ -18,6 +18,7 @@
 //! - `move_thin`: `ThinReplies`, `Frame`
 //! - `resize_thin_unknown_align`, `reallocate_thin_unknown_align`: `ThinUnknownAlign`, `Frame`
 //! - `allocate_units`, `deallocate_units`, `resize_units`: `Units`, `Frame`
+//! - `unit_payload_len`: `Units`
 //! - `as_mut_slice` of a payload: `Lends`
 //! - `insert_free_block`, `insert_free_block_ptr`: `Lending`, `Frame`; model `Insert`
 //! - `append_free_block_ptr`: `Frame`; model `Insert`
@@ -50,4 +51,5 @@ pub use heap::Heap;
 pub use loan::Loan;
 pub use payload::Payload;
 pub use thin::ThinPayload;
+pub use units::unit_payload_len;
 pub use words::HeapWords;

@@ -18,8 +18,11 @@ use rlsf_tlsf::core_calls::{deallocate_block_in, resize_block_in};
 /// The length of a unit, and its alignment.
 const UNIT: usize = 16;
 
-// Returns the length of a payload of units for `size` bytes.
-fn payload_len(size: usize) -> usize
+/// Returns the length of the payload that `Heap::allocate_units` returns for `size` bytes: the least number that is at least `size`, and
+/// 16 less than a multiple of 32.
+///
+/// `size` is less than `2^63`. Completes in constant time.
+pub fn unit_payload_len(size: usize) -> usize
     requires { size < 2 ^ 63 }
     ensures { result ≡ payload_len size }
 {
@@ -144,7 +147,7 @@ impl<FLBitmap: BitPattern, SLBitmap: BitPattern, const FLLEN: usize, const SLLEN
         ensures frame { KeepsFrameBeside self.old self.new (range_at payload.start payload.len) }
         ensures touches { self.new.memory.touches ≤ self.old.memory.touches + 25 }
     {
-        let wanted = payload_len(size);
+        let wanted = unit_payload_len(size);
         let kept = lesser(len, wanted);
         // The word at 8 bytes past the payload's end names its block.
         let block = self

@@ -12,7 +12,7 @@ use crate::buffer::Buffer;
 use crate::slot::Slot;
 use crate::unit_heap::{UNIT, UnitHeap, over_all};
 use rlsf_base::memory::{MemoryError, OpenMemory, UnitPayload};
-use rlsf_heap::Heap;
+use rlsf_heap::{Heap, unit_payload_len};
 use rlsf_int::BitPattern;
 use std::alloc::{AllocError, Allocator, Global};
 use std::cell::Cell;
@@ -26,20 +26,12 @@ const START: usize = 4096;
 /// The bytes of a block that are not its payload's: two words before it.
 const HEADER: usize = 16;
 
-// Returns the length of the payload for `size` bytes: the least number that is at least `size` and 16 less than a multiple of 32.
-fn payload_len(size: usize) -> usize
-    requires { size < 2 ^ 63 }
-    ensures { result ≡ payload_len size }
-{
-    (size + 47) / 32 * 32 - 16
-}
-
 // Returns the length of the payload of an array of `cap` values.
 fn array_len<T>(cap: usize) -> usize
     requires { cap * type_size T.row < 2 ^ 63 }
     ensures { result ≡ payload_len (cap * type_size T.row) }
 {
-    payload_len(cap * size_of::<T>())
+    unit_payload_len(cap * size_of::<T>())
 }
 
 /// A heap as the allocator of one thread's collections, which hold a `&` to it.
@@ -175,7 +167,7 @@ impl<H: UnitHeap> LocalHeap<H> {
         let payload = heap.take(size);
         self.slot.replace(Some(heap));
         if payload.is_some() {
-            self.count(payload_len(size));
+            self.count(unit_payload_len(size));
         }
         payload
     }
@@ -219,7 +211,7 @@ impl<H: UnitHeap> LocalHeap<H> {
         self.slot.replace(Some(heap));
         if resized.is_ok() {
             self.discount(len);
-            self.count(payload_len(size));
+            self.count(unit_payload_len(size));
         }
         resized
     }
@@ -296,7 +288,7 @@ unsafe impl<H: UnitHeap> Allocator for LocalHeap<H> {
     }
 
     unsafe fn deallocate(&self, ptr: *mut u8, size: usize, _align: usize) {
-        let len = payload_len(size);
+        let len = unit_payload_len(size);
         self.give(UnitPayload { ptr, len }, len);
     }
 

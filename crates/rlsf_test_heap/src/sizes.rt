@@ -1,5 +1,8 @@
-//! Blocks of each kind of size and alignment in an allocator of collections: a case of `local.rt`, over any allocator.
+//! Blocks of each kind of size and alignment in an allocator of collections: a case of `local.rt`, over any allocator. And how long a
+//! payload of units is.
+use crate::answers::are;
 use crate::local::{Case, Found, NOTHING, passes_in_a_heap};
+use rlsf_heap::unit_payload_len;
 use std::alloc::{AllocError, Allocator};
 use std::test::Fail;
 
@@ -49,4 +52,20 @@ pub(crate) fn serve_each_size<A: Allocator + Copy, F: Fn() -> [usize; 3]>(
 #[test]
 fn each_size_has_its_block(rt: HostRuntime) -> Result<(), Fail> {
     passes_in_a_heap(&rt, 131072, Case::ServeEachSize)
+}
+
+// The least length that is at least the size, and 16 less than a multiple of 32.
+#[test]
+fn each_size_has_its_length(rt: HostRuntime) {
+    let lens = [
+        unit_payload_len(0),
+        unit_payload_len(1),
+        unit_payload_len(16),
+        unit_payload_len(17),
+        unit_payload_len(48),
+        unit_payload_len(49),
+        unit_payload_len(1001),
+        unit_payload_len(65536),
+    ];
+    are(&rt, &lens, &[16, 16, 16, 48, 48, 80, 1008, 65552]);
 }

@@ -110,7 +110,7 @@ module _ (g : given.Over) (c : After-resize_block_in g) where
   at = (begins_at b.shown c.put_unit_payload-block.result c.put_unit_payload-block.ensures.word).1
 
   kept_is : c.lesser-kept.result ≡ c.args.payload.kept
-  kept_is = omega (arith, c.lesser-kept.ensures, c.payload_len-wanted.ensures, c.requires.len, c.requires.kept)
+  kept_is = omega (arith, c.lesser-kept.ensures, c.unit_payload_len-wanted.ensures, c.requires.len, c.requires.kept)
 
   same : read_from n k ≡ read_from m k
   same = read_from-same m n k c.put_unit_payload-block.ensures.memory.start c.put_unit_payload-block.ensures.memory.bytes
@@ -294,19 +294,19 @@ take_unit_payload-requires-2-clause-place g c =
     let d = (goal.at.take_unit_payload-requires-2-clause-place g c).After-resize_block_in in
     let early = (goal.at.take_unit_payload-requires-2-clause-place g c).After-put_unit_payload-block in
     let o = c.resize_block_in.new.memory in
-    placed g d o refl refl (payload_len c.args.size) (fits g early) (as_wanted g d o refl refl c.if-not-resize_block_in.false) c.payload_len-wanted.ensures
+    placed g d o refl refl (payload_len c.args.size) (fits g early) (as_wanted g d o refl refl c.if-not-resize_block_in.false) c.unit_payload_len-wanted.ensures
 
 pub take_unit_payload-requires-2-clause-units : goal.take_unit_payload-requires-2-clause-units
 take_unit_payload-requires-2-clause-units g c =
     let d = (goal.at.take_unit_payload-requires-2-clause-units g c).After-resize_block_in in
-    (omega (arith, at g d, c.args.payload.placed.aligned.0), omega (arith, c.payload_len-wanted.ensures, payload_len-whole c.args.size))
+    (omega (arith, at g d, c.args.payload.placed.aligned.0), omega (arith, c.unit_payload_len-wanted.ensures, payload_len-whole c.args.size))
 
 pub take_unit_payload-requires-2-clause-own : goal.take_unit_payload-requires-2-clause-own
 take_unit_payload-requires-2-clause-own g c =
     let d = (goal.at.take_unit_payload-requires-2-clause-own g c).After-resize_block_in in
     let early = (goal.at.take_unit_payload-requires-2-clause-own g c).After-put_unit_payload-block in
     let o = c.resize_block_in.new.memory in
-    own g d o refl refl (payload_len c.args.size) (fits g early) (as_wanted g d o refl refl c.if-not-resize_block_in.false) c.payload_len-wanted.ensures
+    own g d o refl refl (payload_len c.args.size) (fits g early) (as_wanted g d o refl refl c.if-not-resize_block_in.false) c.unit_payload_len-wanted.ensures
 
 pub invariant_of-self-2 : goal.invariant_of-self-2
 invariant_of-self-2 g c =
@@ -315,7 +315,7 @@ invariant_of-self-2 g c =
     let e = c.take_unit_payload-2.ensures in
     let q = c.take_unit_payload-2.new.self in
     heap g d q e.memory.start e.memory.bytes (payload_len c.args.size) (fits g early)
-    (as_wanted g d q e.memory.start e.memory.bytes c.if-not-resize_block_in.false) c.payload_len-wanted.ensures
+    (as_wanted g d q e.memory.start e.memory.bytes c.if-not-resize_block_in.false) c.unit_payload_len-wanted.ensures
     c.issue-ticket-2.new.self.entries c.issue-ticket-2.ensures.entries e.memory.out
 
 pub returns : goal.returns
@@ -329,7 +329,7 @@ returns g c =
     let is = as_left g d c.take_unit_payload-2.new.self e.memory.start e.memory.bytes in
     let now = payload_len c.args.size in
     let long = as_wanted g d c.take_unit_payload-2.new.self e.memory.start e.memory.bytes yes in
-    let wanted = c.payload_len-wanted.ensures in
+    let wanted = c.unit_payload_len-wanted.ensures in
     let start : c.take_unit_payload-2.result.start ≡ c.args.payload.start = e.place.1 ∙ at g d in
     rw (← c.self.view_is) (record {
       step = (

@@ -35,8 +35,8 @@ use Rattle.rlsf_base.specs.contracts.memory.unit_payload.UnitPayload as payload
 use Rattle.rlsf_base.proofs.RawBlock.PointerValues.{room-complete, spot_val, spot_own, spot_made}
 use Rattle.rlsf_heap.specs.Heap.{Identity}
 use Rattle.rlsf_heap.specs.Units.{IsCompleteOf, payload_len}
-use Rattle.rlsf_local_heap.specs.contracts.local.payload_len as sizer
-use Rattle.rlsf_local_heap.proofs.local.payload_len.Met.{met as sizes}
+use Rattle.rlsf_heap.specs.contracts.unit_payload_len as sizer
+use Rattle.rlsf_heap.proofs.unit_payload_len.Met.{met as sizes}
 use Rattle.rlsf_local_heap.specs.Ownership.{block_beside, block_token}
 use Rattle.rlsf_local_heap.proofs.SmallerUnits.{returned, holds, whole}
 use Rattle.rlsf_local_heap.specs.contracts.local.LocalHeap.give as callee
@@ -94,7 +94,7 @@ deallocate_spec 𝓤 𝓛 𝓜 𝓡 wired T L gU dU gI dI dd mU mI md =
     let En : Env 𝓤 𝓛.H = env fn.locals l in
     use0 𝓛 (raw (fact 𝓤 (n < 2 ^ 63))) (fact_i 𝓤 (n < 2 ^ 63) (emp 𝓤) (omega arith)) $ nothing ! $ flt_i ! n (2 ^ 64) are.1.1.0.1 $
     feq_i ! (List Val) (vint w64 n ∷ []) (vint w64 n ∷ []) refl $ fjoin ! $ fjoin ! $ nothing ! $ join ! $ join ! $ use1 𝓛 (raw (k₀.pre y₀)) (id⊢ 𝓤 _) $
-    calls_at ! (fm 𝓛 𝓜 𝓡) k₀ (sizes 𝓤 𝓛 𝓜 𝓡 (compiled.calls-rlsf_local_heap::local::payload_len 𝓡.env wired)) y₀ (and_then ! (get ! refl) (no_more !)) (λ v.
+    calls_at ! (fm 𝓛 𝓜 𝓡) k₀ (sizes 𝓤 𝓛 𝓜 𝓡 (compiled.calls-rlsf_heap::unit_payload_len 𝓡.env wired)) y₀ (and_then ! (get ! refl) (no_more !)) (λ v.
     use1 𝓛 (later (some (λ (j : ℕ). (‵ ftrue ⊛ ‵ (usize.own_val j (v ∷ []))) ⊛ some
     (λ (ls : Lasts sizer.ended tt y₀.0.3). ‵ (lasts sizer.ended tt y₀.0.3 ls) ⊛ raw (fact 𝓤 (j ≡ payload_len n)))))) (id⊢ 𝓤 (k₀.post y₀ v)) $
     await ! tt $ pick ! (λ j. split ! $ move ! (1 ∷ []) $
