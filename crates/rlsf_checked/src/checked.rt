@@ -447,8 +447,10 @@ impl<
 pub(crate) fn lies_in(memory: &Memory, range: Range) -> bool
     ensures { result ≡ is_within (range_of memory.now) range }
 {
-    let end = memory.start() + memory.len();
-    memory.start() <= range.start && range.start <= end && range.len <= end - range.start
+    range.lies_in(Range {
+        start: memory.start(),
+        len: memory.len(),
+    })
 }
 
 /// Returns whether an address is the end of a range that isn't empty.
