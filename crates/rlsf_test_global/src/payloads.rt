@@ -88,8 +88,8 @@ static WRITES: [(usize, usize, &[u8], usize); 9] = [
     (7, usize::MAX, &[46], 2),
 ];
 
-/// Addresses and offsets from which four sevens or no bytes are read into. Each has 0 or the number of the error, and the bytes that
-/// are there then.
+/// The address and the offset of a read into four bytes of 7, or into none: 0 or the number of the error, and the bytes that are there
+/// afterwards.
 static READS: [(usize, usize, usize, &[u8]); 14] = [
     (65552, 0, 0, &[1, 2, 3, 20]),
     (65552, 2, 0, &[3, 20, 21, 6]),

@@ -1,19 +1,15 @@
 //! Payloads that threads send to one another through a queue, and what a `SharedPayload` does.
 
 use crate::answers::all;
-use rlsf_base::memory::{Layout, OpenMemory, Range};
+use crate::shared::{Shared, shared_heap};
+use rlsf_base::memory::Layout;
 use rlsf_example_libraries::MessageQueue;
-use rlsf_heap::Heap;
-use rlsf_shared_heap::{FreedOnDrop, SharedHeap, SharedPayload};
+use rlsf_shared_heap::{FreedOnDrop, SharedPayload};
 use std::alloc::{AllocError, Global};
 use std::sync::Wait;
 use std::test::Fail;
 use std::thread;
 use std::thread::Threads;
-
-type Plain = Heap<u16, u16, 12, 16>;
-
-type Shared = SharedHeap<u16, u16, 12, 16>;
 
 /// A queue of payloads.
 type Queue<'h> = MessageQueue<SharedPayload<'h, Shared>>;
@@ -23,20 +19,6 @@ const THREADS: usize = 8;
 
 /// How many messages each of them sends.
 const MESSAGES: u64 = 12500;
-
-/// The addresses of the pool.
-const POOL: Range = Range {
-    start: 65536,
-    len: 65536,
-};
-
-/// Returns a shared heap of one pool.
-fn shared_heap(alloc: Global) -> Result<Shared, Fail> {
-    let memory = OpenMemory::reserve(alloc, POOL.start, POOL.len)?;
-    let mut heap = Plain::new(memory);
-    heap.insert_free_block_ptr(POOL);
-    Ok(Shared::new(heap))
-}
 
 /// Returns a payload of so many zeros, or more.
 fn zeros<'h, R: Wait>(

@@ -14,7 +14,7 @@ use std::thread::Threads;
 
 type Plain = Heap<u16, u16, 12, 16>;
 
-type Shared = SharedHeap<u16, u16, 12, 16>;
+pub(crate) type Shared = SharedHeap<u16, u16, 12, 16>;
 
 /// How many pairs of payloads each thread fills, reads back and deallocates.
 const ROUNDS: usize = 2000;
@@ -29,7 +29,7 @@ const POOL: Range = Range {
 };
 
 /// A shared heap of one pool.
-fn shared_heap(alloc: Global) -> Result<Shared, Fail> {
+pub(crate) fn shared_heap(alloc: Global) -> Result<Shared, Fail> {
     let memory = OpenMemory::reserve(alloc, POOL.start, POOL.len)?;
     let mut heap = Plain::new(memory);
     heap.insert_free_block_ptr(POOL);
