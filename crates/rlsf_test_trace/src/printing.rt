@@ -1,6 +1,7 @@
 //! Tests that print answers.
 
 use crate::answers::{all, passes};
+use crate::reading::first_ops;
 use rlsf_base::memory::{Layout, Range};
 use rlsf_trace_text::{Answer, Op, TraceError, text_of};
 use std::num::NonZeroUsize;
@@ -14,17 +15,6 @@ fn prints(rt: &(impl Abort + AllocGlobal), ops: &[Op], answers: &[Answer], text:
 
 #[test]
 fn first_run(rt: HostRuntime) {
-    let byte = Layout::from_size_align_unchecked(0, 1);
-    let range = Range {
-        start: 4096,
-        len: 96,
-    };
-    let ops = [
-        Op::Insert(range),
-        Op::Alloc(1, byte),
-        Op::Alloc(2, byte),
-        Op::Alloc(3, byte),
-    ];
     let answers = [
         Answer::Inserted(NonZeroUsize::new(96)),
         Answer::Placed(NonZeroUsize::new(4112)),
@@ -33,7 +23,7 @@ fn first_run(rt: HostRuntime) {
     ];
     prints(
         &rt,
-        &ops,
+        &first_ops(),
         &answers,
         "insert some 96\nalloc 1 at 4112\nalloc 2 at 4144\nalloc 3 none\n",
     );

@@ -16,27 +16,28 @@ fn reads(rt: &(impl Abort + AllocGlobal), text: &[u8], head: Head, ops: &[Op]) {
     all(rt, &[is_head, trace.ops.as_slice() == ops]);
 }
 
-const FIRST_RUN: &[u8] = b"8x8 4096 4096\ninsert 4096 96\nalloc 1 0 1\nalloc 2 0 1\nalloc 3 0 1\n";
+/// A trace with room for two payloads, and three allocations.
+pub(crate) const FIRST_RUN: &[u8] =
+    b"8x8 4096 4096\ninsert 4096 96\nalloc 1 0 1\nalloc 2 0 1\nalloc 3 0 1\n";
 
-#[test]
-fn first_run(rt: HostRuntime) {
+/// Returns the ops of `FIRST_RUN`.
+pub(crate) fn first_ops() -> [Op; 4] {
     let byte = Layout::from_size_align_unchecked(0, 1);
-    let range = Range {
-        start: 4096,
-        len: 96,
-    };
-    let ops = [
-        Op::Insert(range),
+    [
+        Op::Insert(Range {
+            start: 4096,
+            len: 96,
+        }),
         Op::Alloc(1, byte),
         Op::Alloc(2, byte),
         Op::Alloc(3, byte),
-    ];
-    reads(
-        &rt,
-        FIRST_RUN,
-        (Configuration::EightByEight, 4096, 4096),
-        &ops,
-    );
+    ]
+}
+
+#[test]
+fn first_run(rt: HostRuntime) {
+    let head = (Configuration::EightByEight, 4096, 4096);
+    reads(&rt, FIRST_RUN, head, &first_ops());
 }
 
 #[test]

@@ -6,12 +6,11 @@ mod faults;
 mod streams;
 
 use crate::answers::passes;
+use crate::reading::FIRST_RUN;
 use rlsf_trace_runs::replay;
 use rlsf_trace_text::status;
 use std::alloc::Global;
 use std::process::Abort;
-
-const FIRST_RUN: &[u8] = b"8x8 4096 4096\ninsert 4096 96\nalloc 1 0 1\nalloc 2 0 1\nalloc 3 0 1\n";
 
 /// The output for a text, the report of its fault, and the status. `None` if that is no text, or the system is out of memory.
 fn replayed(alloc: Global, text: &[u8]) -> Option<String> {
